@@ -1,5 +1,5 @@
 -- Each answer is right by what the lines before it showed.
-use Rattle.std.proofs.Common.{◌≡◌, List, [], ◌∷◌, Option, Some, None, Result, Ok, Err, refl, sym, ap, subst}
+use Rattle.std.proofs.Common.{◌≡◌, ℕ, List, [], ◌∷◌, map, Option, Some, None, Result, Ok, Err, refl, sym, ap, subst}
 use Rattle.kube_model.specs.declared.event.Event.{Event}
 use Rattle.kube_model.specs.declared.event.EventFault.{EventFault}
 use Rattle.kube_events.specs.Event.{event_of_line}
@@ -11,12 +11,17 @@ use Rattle.object_history.proofs.Cached.{objects-as_shown}
 use Rattle.admission_reviews.specs.declared.review.Review.{Review}
 use Rattle.admission_judge.proofs.Verdicts.{allowed_is, named_is}
 use Rattle.mlb_edge.specs.declared.lines.Line.{Line}
-use Rattle.mlb_edge.specs.InputLines.{Ending}
-use Rattle.line_run.specs.Run.{run_from, runs_on}
+use Rattle.mlb_edge.specs.InputLines.{Ending, Whole}
+use Rattle.line_run.specs.Run.{Run, run_from, runs_on}
+use Rattle.line_run.specs.RunOutput.{WritesOnly}
 use Rattle.admit_run.specs.declared.work.Work.{Work}
 use Rattle.admit_run.specs.declared.work.Work.TheVariants.{Judging}
-use Rattle.admit_run.specs.Stream.{Answer, readable_review, answer_of, event_step, step_where, admit_rules}
-use Rattle.admit_run.specs.Judged.{IsRightAnswer, IsRightAfter, IsRightAt, AreRight, RunsAreRight}
+use Rattle.admit_run.specs.Stream.{Answer, TranscriptEntry, readable_review, answer_of, event_step, step_where, told_of, admit_rules}
+use Rattle.admit_run.specs.Judged.{IsRightAnswer, IsRightAfter, IsRightAt, AreRight}
+use Rattle.admit_run.specs.Right.{IsRightRun, WritesRightly}
+use Rattle.admit_run.specs.Words.{begun_by}
+use Rattle.admit_run.proofs.Telling.{lines_are_told}
+use Rattle.pool_config.specs.Objects.{no_objects}
 
 -- these objects are what is held after what was shown earlier
 abbrev IsHeld : ObjectSet → List Observation → Type 0
@@ -52,5 +57,20 @@ right_from [] ending earlier s e = refl
 right_from (line ∷ lines) ending earlier s e =
     right_at lines ending (λ shown t held. right_from lines ending shown t held) (readable_review line.bytes) line earlier s e
 
-pub runs_are_right : RunsAreRight
-runs_are_right lines ending = right_from lines ending [] _ refl
+-- ---- whatever the words ask for
+answers_right : (lines : List Line) → AreRight lines [] (run_from admit_rules lines Whole (Judging no_objects)).entries
+answers_right lines = right_from lines Whole [] _ refl
+
+right_run : (words : List (List ℕ)) (lines : List Line) → IsRightRun words lines
+right_run words lines = record {
+  judged = λ ask. subst (λ (w : List (List ℕ)). AreRight lines [] (run_from admit_rules lines Whole (begun_by w)).entries) (sym ask) (answers_right lines);
+  told = λ ask. subst (λ (w : List (List ℕ)). (run_from admit_rules lines Whole (begun_by w)).entries ≡ map told_of lines) (sym ask)
+      (ap (λ (r : Run TranscriptEntry). r.entries) (lines_are_told lines Whole));
+}
+
+pub writes_rightly : (words : List (List ℕ)) (work : Work) (left before after : Option (List ℕ)) → work ≡ begun_by words
+    → WritesOnly admit_rules work left before after → WritesRightly words left before after
+writes_rightly words work left before after begun only =
+    let written : WritesOnly admit_rules (begun_by words) left before after =
+    subst (λ (w : Work). WritesOnly admit_rules w left before after) begun only in
+    record { written = written; right = right_run words written.lines }

@@ -10,10 +10,12 @@ use Rattle.line_run.specs.Run.{Run, run_from, status_at}
 use Rattle.admit_run.specs.declared.work.Work.{Work}
 use Rattle.admit_run.specs.declared.work.Work.TheVariants.{Explaining}
 use Rattle.admit_run.specs.Stream.{TranscriptEntry, told_of, admit_rules, IsCause}
-use Rattle.admit_run.specs.Told.{LinesAreTold, StopsAtNone}
+use Rattle.admit_run.specs.Told.{StopsAtNone}
 use Rattle.admit_run.specs.Words.{begun_by}
 
-pub lines_are_told : LinesAreTold
+-- each line is told of once, in their order, by its number and what it is read as; and no line ends such a run
+pub lines_are_told : (lines : List Line) (ending : Ending)
+    → run_from admit_rules lines ending Explaining ≡ record { entries = map told_of lines; stop = status_at admit_rules ending Explaining }
 lines_are_told [] ending = refl
 lines_are_told (line ∷ lines) ending =
     ap (λ (r : Run TranscriptEntry). let first : Run TranscriptEntry = record { entries = told_of line ∷ r.entries; stop = r.stop } in first)

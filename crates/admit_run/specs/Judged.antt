@@ -4,17 +4,13 @@ use Rattle.kube_model.specs.declared.event.Event.{Event}
 use Rattle.kube_model.specs.declared.event.EventFault.{EventFault}
 use Rattle.kube_events.specs.Event.{event_of_line}
 use Rattle.pool_config.specs.declared.object_set.ObjectSet.{ObjectSet}
-use Rattle.pool_config.specs.Objects.{no_objects}
 use Rattle.object_history.specs.Observations.{Observation, Watched}
 use Rattle.object_history.specs.LookBack.{IsSetAsShown}
 use Rattle.admission_reviews.specs.declared.response.Verdict.TheVariants.{Allowed, Refused}
 use Rattle.admission_reviews.specs.declared.review.Review.{Review}
 use Rattle.admission_judge.specs.Judging.{IsAllowed, Names}
 use Rattle.mlb_edge.specs.declared.lines.Line.{Line}
-use Rattle.mlb_edge.specs.InputLines.{Ending}
-use Rattle.line_run.specs.Run.{run_from}
-use Rattle.admit_run.specs.declared.work.Work.TheVariants.{Judging}
-use Rattle.admit_run.specs.Stream.{Answer, TranscriptEntry, Answered, readable_review, admit_rules}
+use Rattle.admit_run.specs.Stream.{Answer, TranscriptEntry, Answered, readable_review}
 
 -- The answer names the review. It allows the change just where it may be made to the objects as they were last shown, and refuses it just
 -- by the message that names why not.
@@ -41,7 +37,3 @@ IsRightAt None bytes earlier entries Rest = IsRightAfter (event_of_line bytes) e
 abbrev pub AreRight : List Line → List Observation → List TranscriptEntry → Type 0
 AreRight [] earlier entries = entries ≡ []
 AreRight (line ∷ lines) earlier entries = IsRightAt (readable_review line.bytes) line.bytes earlier entries (λ shown rest. AreRight lines shown rest)
-
--- so are the answers of each run that no word asks more of
-abbrev pub RunsAreRight : Type 0
-RunsAreRight = (lines : List Line) (ending : Ending) → AreRight lines [] (run_from admit_rules lines ending (Judging no_objects)).entries

@@ -2,7 +2,6 @@
 //! may be made, or of any lines what they are read as.
 #![tactic(auto)]
 
-mod laws;
 mod line;
 mod run;
 mod tool;

@@ -3,12 +3,11 @@ ghost use Rattle.std.specs.Prelude.{◌≡◌, ◌↔◌};
 ghost use Rattle.command_options.specs.Options.{texts_of};
 ghost use Rattle.line_run.specs.Clauses.{AtReadFault, AtWriteFault, RunOwes};
 ghost use Rattle.admit_run.specs.Clauses.{MayAskAnswered, CanEnd, work_of};
-ghost use Rattle.admit_run.specs.Judged.{RunsAreRight};
+ghost use Rattle.admit_run.specs.Right.{WritesRightly};
 ghost use Rattle.admit_run.specs.Stream.{admit_rules, IsCause};
-ghost use Rattle.admit_run.specs.Told.{LinesAreTold, StopsAtNone};
+ghost use Rattle.admit_run.specs.Told.{StopsAtNone};
 ghost use Rattle.admit_run.specs.Words.{AreKnown};
 
-use crate::laws::{answers_are_right, lines_are_told};
 use crate::work::work_asked;
 use kube_model::Status;
 use line_run::{PacedSource, run_machine};
@@ -42,15 +41,13 @@ pub fn run_admit<S: PacedSource<K>, K: Sink>(
     ensures run { AreKnown (texts_of words.now) → RunOwes admit_rules IsCause (work_of words.now) result
         (S.left input.old) (S.left input.new) (K.written out.old) (K.written out.new) }
 
-    // The runs of which all these clauses tell. Of one that answers reviews: each review has one answer, in their order, up to a line that ends
-    // the run, and it is right by what the events before it showed. Of one that is asked what the lines are read as: each line is told of once,
-    // in their order, and none ends the run.
-    ensures judged { RunsAreRight }
-    ensures told { LinesAreTold }
+    // Over any input at all a beginning of the text of its lines' run was written, and that run is right. Where reviews are answered, each has one
+    // answer, in their order, up to a line that ends the run, and it is right by what the events before it showed. Where it is asked what the lines
+    // are read as, each is told of once, in their order, and none ends the run.
+    ensures only { AreKnown (texts_of words.now) → WritesRightly (texts_of words.now)
+        (S.left input.old) (K.written out.old) (K.written out.new) }
     ensures stops_at_none { StopsAtNone (texts_of words.now) result }
 {
-    answers_are_right();
-    lines_are_told();
     let Some(mut work) = work_asked(alloc, words) else {
         return Status::Usage;
     };

@@ -2,24 +2,19 @@
 use Rattle.std.proofs.Common.{◌≡◌, ℕ, Bool, true, false, cond, not, ◌&&◌, ◌||◌, List, [], ◌∷◌, ◌++◌, filter}
 use Rattle.std.proofs.Common.{Contains, Option, Some, None, Result, Ok, Err, refl, sym, ap, subst, ◌∙◌}
 use Rattle.std.proofs.lemmas.Bool.{false≢true}
-use Rattle.std.proofs.lemmas.List.Elements.{Contains-append_left, Contains-append_right}
 use Rattle.std.proofs.lemmas.List.Kept.{IsStrictlySortedBy-filter}
 use Rattle.std.proofs.lemmas.Map.Views.{any-filter_same}
 use Rattle.std.specs.Prelude.{IfOk}
 use Rattle.std.specs.BTreeMap.{is_at}
 use Rattle.std.specs.List.{list_any}
 use Rattle.std.specs.List.Sorted.{IsStrictlySortedBy}
-use Rattle.std.specs.Map.{keys_of}
 use Rattle.std.proofs.Math.Bool.{or-false}
-use Rattle.mlb_base.proofs.Among.{contains-first, contains-later}
 use Rattle.ip_ranges.specs.Values.{AddressValue, same_address, has_address}
 use Rattle.ip_ranges.proofs.AddressLaws.{same_address-is, has_address-from}
-use Rattle.speaker_view.specs.Endpoints.{recorded_addresses}
 use Rattle.speaker_view.specs.ViewValue.{ViewValue}
 use Rattle.speaker_view.proofs.AddressOrder.{ascending-distinct, ascending-same, found-has, has-distinct}
-use Rattle.l2_elect.specs.Election.{announces_of, is_named}
+use Rattle.l2_elect.specs.Election.{announcer_of, announces_of, is_named}
 use Rattle.l2_elect.specs.Kept.{AreKeptBut, AreKeptFor, kept_announcer}
-use Rattle.l2_elect.proofs.Keeping.{nothing-but}
 use Rattle.announced_set.specs.Announced.{address_cmp, announced_by}
 use Rattle.announced_set.specs.Changes.{AreComeSince, AreWithdrawn, difference, kept_among, is_kept_announcer}
 use Rattle.announced_set.proofs.Listed.{all_are_announced, has-announced}
@@ -98,24 +93,6 @@ module _ {T E : Type 0} (found : T → List AddressValue) (r : Result T E) (node
 
   pub told-announced : IfOk r (λ x. found x ≡ difference after before) → IfOk r (λ x. AreComeSince old w node (found x))
   told-announced = if_ok r (λ x e v kept. e ∙ (λ i. difference (now i) (was i)) ∙ announced-told node addresses old new v w kept is but)
-
--- ---- where all are looked at
--- at an address that isn't a key nothing is held
-unheld_by : {X : Type 0} (b : Bool) (here : X) (there : Option X) → (b ≡ true → ⊥) → there ≡ None → cond b (Some here) there ≡ None
-unheld_by true here there never none = absurd (never refl)
-unheld_by false here there never none = none
-
-unheld : (entries : List (AddressValue × List ℕ)) (a : AddressValue) → ¬ (Contains (keys_of entries) a) → kept_announcer entries a ≡ None
-unheld [] a none = refl
-unheld (e ∷ es) a none =
-    unheld_by (same_address a e.0) e.1 (kept_announcer es a)
-    (λ same. none (subst (λ (x : AddressValue). Contains (e.0 ∷ keys_of es) x) (sym (same_address-is a e.0 same)) (contains-first e.0 (keys_of es))))
-    (unheld es a (λ there. none (contains-later e.0 (keys_of es) a there)))
-
-pub kept-but_all : (entries : List (AddressValue × List ℕ)) (v : ViewValue) → AreKeptBut (recorded_addresses v ++ keys_of entries) entries v
-kept-but_all entries v a none =
-    unheld entries a (λ there. none (Contains-append_right (recorded_addresses v) (keys_of entries) a there))
-    ∙ nothing-but v a (λ there. none (Contains-append_left (recorded_addresses v) (keys_of entries) a there))
 
 -- ---- a difference, taken address by address
 one_of : (f s r : Bool) → (cond s true f || r) ≡ (f || (s || r))

@@ -1,16 +1,14 @@
 //! How what a node announces changes.
-ghost use Rattle.std.specs.Prelude.{◌≡◌, ◌++◌, true, if◌then◌else◌, IfOk, OnOk};
+ghost use Rattle.std.specs.Prelude.{◌≡◌, true, if◌then◌else◌, map, IfOk, OnOk};
 ghost use Rattle.std.specs.List.Sorted.{IsStrictlySortedBy};
-ghost use Rattle.std.specs.Map.{keys_of};
 ghost use Rattle.ip_ranges.specs.Values.{AddressValue, has_address, same_address};
-ghost use Rattle.speaker_view.specs.Endpoints.{recorded_addresses};
-ghost use Rattle.l2_elect.specs.Kept.{AreKeptBut, AreKeptFor, AreRightBut};
+ghost use Rattle.l2_elect.specs.Kept.{AreKeptFor, WereKept};
 ghost use Rattle.announced_set.specs.Announced.{address_cmp};
 ghost use Rattle.announced_set.specs.Changes.{AreComeSince, AreWithdrawn, difference, kept_among, is_kept_announcer};
 
 use ip_ranges::{Address, AddressList};
 use kube_labels::Text;
-use l2_elect::Announcers;
+use l2_elect::{Announcers, Move};
 use mlb_base::NoMemory;
 use speaker_view::{View, ViewChange};
 use std::alloc::Global;
@@ -31,9 +29,8 @@ impl Drop for AddressChanges {
     }
 }
 
-/// Makes the announcers those of the view, where they are so already but for what the change may have changed, and tells what that
-/// changes of what the node announces. The election is held for the addresses that the change lists alone, unless it may change all.
-/// After an error nothing is known of the announcers.
+/// Makes the announcers of the view before those of the view, and tells what that changes of what the
+/// node announces. After an error nothing is known of the announcers.
 pub fn renew_announcers(
     alloc: Global,
     announcers: &mut Announcers,
@@ -41,59 +38,27 @@ pub fn renew_announcers(
     node: &Text,
     change: &ViewChange,
 ) -> Result<AddressChanges, NoMemory>
-    requires { AreRightBut change.now announcers.old view.now }
+    requires { WereKept change.now announcers.old view.now }
     ensures announcers { OnOk result (AreKeptFor announcers.new view.now) }
     ensures withdrawn { IfOk result (λ changes. AreWithdrawn announcers.old view.now node.now changes.withdrawn.keys) }
     ensures announced { IfOk result (λ changes. AreComeSince announcers.old view.now node.now changes.announced.keys) }
 {
-    if change.all {
-        return renew_all(alloc, announcers, view, node);
-    }
-    renew_at(alloc, announcers, view, node, &change.addresses)
+    let moves = announcers.moves(view, change)?;
+    let addresses = addresses_of(alloc, moves.as_slice())?;
+    let before = kept_for_node(alloc, announcers, node, &addresses)?;
+    announcers.make(moves)?;
+    let after = kept_for_node(alloc, announcers, node, &addresses)?;
+    changes_between(alloc, &before, &after)
 }
 
-fn renew_all(
-    alloc: Global,
-    announcers: &mut Announcers,
-    view: &View,
-    node: &Text,
-) -> Result<AddressChanges, NoMemory>
-    ensures announcers { OnOk result (AreKeptFor announcers.new view.now) }
-    ensures withdrawn { IfOk result (λ changes. AreWithdrawn announcers.old view.now node.now changes.withdrawn.keys) }
-    ensures announced { IfOk result (λ changes. AreComeSince announcers.old view.now node.now changes.announced.keys) }
+fn addresses_of(alloc: Global, moves: &[Move]) -> Result<AddressList, NoMemory>
+    ensures { IfOk result (λ addresses. addresses ≡ map (λ m. m.address) moves.now) }
 {
-    let addresses = all_addresses(announcers, view)?;
-    renew_at(alloc, announcers, view, node, &addresses)
-}
-
-/// The addresses that services record, and those for which an announcer is held.
-fn all_addresses(announcers: &Announcers, view: &View) -> Result<AddressList, NoMemory>
-    ensures { IfOk result (λ addresses. addresses ≡ recorded_addresses view.now ++ keys_of announcers.now) }
-{
-    let mut addresses = view.addresses()?;
-    for address in announcers.addresses() {
-        addresses.push(*address)?;
+    let mut addresses = AddressList::new(alloc);
+    for moved in moves {
+        addresses.push(*moved.address())?;
     }
     Ok(addresses)
-}
-
-/// The same, where they are right but at these addresses.
-fn renew_at(
-    alloc: Global,
-    announcers: &mut Announcers,
-    view: &View,
-    node: &Text,
-    addresses: &AddressList,
-) -> Result<AddressChanges, NoMemory>
-    requires { AreKeptBut addresses.now announcers.old view.now }
-    ensures announcers { OnOk result (AreKeptFor announcers.new view.now) }
-    ensures withdrawn { IfOk result (λ changes. AreWithdrawn announcers.old view.now node.now changes.withdrawn.keys) }
-    ensures announced { IfOk result (λ changes. AreComeSince announcers.old view.now node.now changes.announced.keys) }
-{
-    let before = kept_for_node(alloc, announcers, node, addresses)?;
-    announcers.renew(view, addresses)?;
-    let after = kept_for_node(alloc, announcers, node, addresses)?;
-    changes_between(alloc, &before, &after)
 }
 
 fn changes_between(

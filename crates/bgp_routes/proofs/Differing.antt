@@ -1,4 +1,5 @@
--- Where a change leaves all at the addresses that it doesn't list, the views before and after differ at those that it lists at most.
+-- Where a change leaves all at the addresses that it doesn't list but at its nodes, the views before and after differ for another node at those that it
+-- lists at most.
 use Rattle.std.proofs.Common.{◌≡◌, ℕ, ◌+◌, ◌<◌, ◌==◌, suc, false, List, [], ◌∷◌, Contains, refl, sym, ◌∙◌, arith}
 use Rattle.std.proofs.lemmas.Bool.{false≢true, and_right, or_from}
 use Rattle.std.proofs.lemmas.Bool.Decides.{nat_tests}
@@ -32,8 +33,8 @@ not-listed addresses there =
     false≢true (sym (above addresses (suc (total addresses)) (omega arith)) ∙ has_address-from addresses (numbered (suc (total addresses))) there)
 
 pub changed-differ : ChangedViewsDiffer
-changed-differ v w change stay all node = record {
+changed-differ v w change stay all node other = record {
   config = sym (stay all (fresh change.addresses) (not-listed change.addresses)).config;
-  labels = sym ((stay all (fresh change.addresses) (not-listed change.addresses)).labels node);
-  announced = λ a other. sym ((stay all a other).announced node);
+  labels = sym ((stay all (fresh change.addresses) (not-listed change.addresses)).labels node other);
+  announced = λ a unlisted. sym ((stay all a unlisted).announced node other);
 }

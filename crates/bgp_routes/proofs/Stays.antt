@@ -1,5 +1,5 @@
 -- Where all stays that decides who may announce an address, the same is contributed for it.
-use Rattle.std.proofs.Common.{◌≡◌, ℕ, Bool, true, ◌&&◌, List, [], ◌∷◌, inl, inr, refl, sym, ap, ◌∙◌, subst}
+use Rattle.std.proofs.Common.{◌≡◌, ℕ, Bool, true, ◌&&◌, List, [], ◌∷◌, inl, inr, refl, sym, ap, ◌∙◌, subst, Contains}
 use Rattle.std.proofs.lemmas.Bool.{and_from, and_parts, false≢true, or_cases, or_left, or_right}
 use Rattle.std.specs.List.{list_any}
 use Rattle.ip_ranges.specs.Values.{AddressValue, PrefixValue, has_address, same_address}
@@ -55,27 +55,27 @@ module _ (v : ViewValue) (node : List ℕ) (both : Bool) (a : AddressValue) wher
         announces = (can_announce-Decides v service node).0 both.1;
       }
 
-stays-back : (v w : ViewValue) (a : AddressValue) → StaysAt v w a → StaysAt w v a
-stays-back v w a stays = record {
+stays-back : (v w : ViewValue) (nodes : List (List ℕ)) (a : AddressValue) → StaysAt v w nodes a → StaysAt w v nodes a
+stays-back v w nodes a stays = record {
   class = sym stays.class;
-  members = sym stays.members;
   config = sym stays.config;
-  labels = λ node. sym (stays.labels node);
-  announced = λ node. sym (stays.announced node);
+  members = λ node other. ((stays.members node other).1, (stays.members node other).0);
+  labels = λ node other. sym (stays.labels node other);
+  announced = λ node other. sym (stays.announced node other);
 }
 
-contributed-before : (v w : ViewValue) (a : AddressValue) → StaysAt v w a → (node : List ℕ) (peer : CompiledPeer) (both : Bool) (c : PrefixValue × Terms)
-    → IsContributionFor w node peer both a c → IsContributionFor v node peer both a c
-contributed-before v w a stays node peer both c x =
+contributed-before : (v w : ViewValue) (nodes : List (List ℕ)) (a : AddressValue) → StaysAt v w nodes a → (node : List ℕ) → ¬ (Contains nodes node)
+    → (peer : CompiledPeer) (both : Bool) (c : PrefixValue × Terms) → IsContributionFor w node peer both a c → IsContributionFor v node peer both a c
+contributed-before v w nodes a stays node other peer both c x =
     let now = x.contribution in
     let at = now.address in
-    let here : StaysAt v w at = subst (λ (b : AddressValue). StaysAt v w b) (sym x.address_is) stays in
-    let labels = stays.labels node in
+    let here : StaysAt v w nodes at = subst (λ (b : AddressValue). StaysAt v w nodes b) (sym x.address_is) stays in
+    let labels = stays.labels node other in
     record {
       contribution = record {
         peer_selects = subst (Selects peer.node_selectors) labels now.peer_selects;
         address = at;
-        announced = to-announced v node both at now.announced.counts (sym (here.announced node) ∙ from-announced w node both at now.announced);
+        announced = to-announced v node both at now.announced.counts (sym (here.announced node other) ∙ from-announced w node both at now.announced);
         advertisement = now.advertisement;
         advertised = record {
           config = now.advertised.config;
@@ -93,5 +93,7 @@ contributed-before v w a stays node peer both c x =
     }
 
 pub contributions_stay : ContributionsStay
-contributions_stay v w a stays node peer both c =
-    (contributed-before v w a stays node peer both c, contributed-before w v a (stays-back v w a stays) node peer both c)
+contributions_stay v w nodes a stays node other peer both c = (
+  contributed-before v w nodes a stays node other peer both c,
+  contributed-before w v nodes a (stays-back v w nodes a stays) node other peer both c,
+)

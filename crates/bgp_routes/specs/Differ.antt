@@ -12,7 +12,8 @@ pub record DiffersAt (u v : ViewValue) (node : List ℕ) (addresses : List Addre
   pub labels : node_labels u node ≡ node_labels v node
   pub announced : (a : AddressValue) → ¬ (Contains addresses a) → announced_from u a node ≡ announced_from v a node
 
--- Where a change leaves all at each address that it doesn't list, the views before and after differ at those that it lists at most.
+-- Where a change leaves all at each address that it doesn't list but at its nodes, the views before and after differ for another node at those
+-- that it lists at most.
 abbrev pub ChangedViewsDiffer : Type 0
 ChangedViewsDiffer = (v w : ViewValue) (change : ViewChange) → OthersStay v w change → change.all ≡ false → (node : List ℕ)
-    → DiffersAt v w node change.addresses
+    → ¬ (Contains change.nodes node) → DiffersAt v w node change.addresses

@@ -44,13 +44,14 @@ pub fn same_views_keep_tables()
     ensures { SameViewsKeepTables }
 {}
 
-/// Where an event leaves all that decides who may announce an address, the same is contributed for it, of every node and to every peer.
+/// Where an event leaves all that decides who may announce an address but at some nodes, the same is contributed for it, of every other
+/// node and to every peer.
 pub fn contributions_stay()
     ensures { ContributionsStay }
 {}
 
-/// Where an event's change leaves all at the addresses that it doesn't list, the views before and after differ, of every node, at those
-/// that it lists at most.
+/// Where an event's change leaves all at the addresses that it doesn't list but at its nodes, the views before and after differ, of every
+/// other node, at those that it lists at most.
 pub fn changed_views_differ()
     ensures { ChangedViewsDiffer }
 {}

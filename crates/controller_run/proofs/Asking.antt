@@ -1,19 +1,19 @@
 -- What the words ask for is one thing.
-use Rattle.std.proofs.Common.{◌≡◌, ℕ, List, Option, Some, None, sym, ap, ◌∙◌}
+use Rattle.std.proofs.Common.{◌≡◌, ℕ, List, Option, Some, None, sym, ◌∙◌}
 use Rattle.command_options.specs.Lanes.{LaneNames}
 use Rattle.controller_words.specs.Reading.{asked_in}
 use Rattle.controller_words.specs.Words.{AskedValue, Run, Trial, Lanes, Say}
 use Rattle.controller_words.proofs.NamedWords.{say-read}
 use Rattle.world_trial.proofs.Safe.{good-trial}
-use Rattle.controller_run.specs.Asked.{class_by, class_of, AskRun, AskTrial, AskLanes, AskNoLanes}
+use Rattle.controller_run.specs.Asked.{AskRun, AskTrial, AskLanes, AskNoLanes}
 use Rattle.controller_run.specs.Trial.{IsSafeTrial}
 
--- the class of a run is the one that is handled
-pub class-named : (words : List (List ℕ)) (class : Option (List ℕ)) → Say words (Run class) → class_of words ≡ class
-class-named words class say = ap class_by (say-read words (Run class) say)
-
-pub class-asked : (words : List (List ℕ)) (class : Option (List ℕ)) → Some (Run class) ≡ asked_in words → class ≡ class_of words
-class-asked words class is = ap class_by is
+-- the class of a run is one
+pub one_run : (words : List (List ℕ)) (class class' : Option (List ℕ)) → Some (Run class) ≡ asked_in words → Say words (Run class') → class ≡ class'
+one_run words class class' is say =
+    let same : Some (Run class) ≡ Some (Run class') = is ∙ say-read words (Run class') say in
+    let classes : class ≡ class' = cc in
+    classes
 
 -- words that ask for a trial ask for no run, and the other way round
 pub no-run : (words : List (List ℕ)) (seed steps : ℕ) → Some (Trial seed steps) ≡ asked_in words → ¬ (AskRun words)

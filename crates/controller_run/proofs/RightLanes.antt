@@ -1,6 +1,7 @@
 -- What the items of two lanes lead to is a run of the core, so what is told of them is sound, and a run that is done leaves nothing waiting.
-use Rattle.std.proofs.Common.{◌≡◌, ℕ, List, [], ◌∷◌, ◌++◌, Option, None, Ok, refl, sym}
+use Rattle.std.proofs.Common.{◌≡◌, ℕ, List, [], ◌∷◌, ◌++◌, Option, None, Ok, refl, sym, subst}
 use Rattle.std.proofs.lemmas.List.{append-nil}
+use Rattle.std.proofs.lemmas.List.Elements.{filter-append}
 use Rattle.std.specs.List.{AllByRecursion}
 use Rattle.core_drive.proofs.Goes.{begins_fresh, expiries_go_on}
 use Rattle.core_drive.specs.Drive.{TranscriptEntry, expiring}
@@ -15,10 +16,11 @@ use Rattle.lane_drive.specs.Clauses.{OnlyWrites, TakesWhole}
 use Rattle.lane_drive.specs.Drive.{Told, AreHeard, AreTaken, IsTaken, entries_of}
 use Rattle.lane_drive.specs.Laws.{IsRead}
 use Rattle.lane_drive.specs.Stops.{AreBeginnings}
-use Rattle.lane_mail.specs.Lanes.{items_of}
+use Rattle.lane_mail.specs.Lanes.{is_lane, items_of}
 use Rattle.lane_mail.specs.declared.item.Item.{Item}
 use Rattle.lane_mail.specs.declared.lane.Lane.{Lane}
 use Rattle.lane_mail.specs.declared.lane.Lane.TheVariants.{First, Second}
+use Rattle.lane_run.proofs.Turning.{begins_less}
 use Rattle.lane_run.specs.Watched.{Begins, StopsAs}
 use Rattle.lane_run.specs.declared.lane_end.LaneEnd.TheVariants.{Done}
 use Rattle.line_run.specs.Run.{AreTaken as AreLinesTaken}
@@ -31,8 +33,17 @@ use Rattle.controller_run.proofs.SoFar.{joined, led_right, lines_lead}
 use Rattle.mlb_base.proofs.Bools.{none_from}
 use Rattle.mlb_edge.specs.declared.lines.Line.{Line}
 
+-- of two groups a lane carries the one that it is the watch of
+lanes_watch : LanesAreWatches
+lanes_watch First groups.Config other = (λ e. refl, λ e. refl)
+lanes_watch First groups.Service other = (λ e. absurd (cc), λ e. absurd (cc))
+lanes_watch First groups.Endpoint other = absurd (other refl)
+lanes_watch Second groups.Config other = (λ e. absurd (cc), λ e. absurd (cc))
+lanes_watch Second groups.Service other = (λ e. refl, λ e. refl)
+lanes_watch Second groups.Endpoint other = absurd (other refl)
+
 module _ (class : Option (List ℕ)) where
-  item_goes : (event : Event) (s : State) (lane : Lane) (bytes : List ℕ) → s.out ≡ None → event_of_line bytes ≡ Ok event
+  pub item_goes : (event : Event) (s : State) (lane : Lane) (bytes : List ℕ) → s.out ≡ None → event_of_line bytes ≡ Ok event
       → GoesOn class s (lane_arrival s lane event)
   item_goes Expired s lane bytes none reads next entries told e leads =
       by_driven class (expiring s (lane_group lane)) next entries told e (expiries_go_on class told s (lane_group lane) leads none)
@@ -72,23 +83,45 @@ module _ (class : Option (List ℕ)) where
       rw is (joined class earlier entries (entries_of more) t (taken_leads items behind next t more (earlier ++ entries) read.1 rest one))
 
   -- from the start, where the items are beginnings of both lanes
-  lanes_lead : (first second : Option (List ℕ)) (items : List Item) (replies : List Line) (t : State) (told : List (Told TranscriptEntry))
+  pub lanes_lead : (first second : Option (List ℕ)) (items : List Item) (replies : List Line) (t : State) (told : List (Told TranscriptEntry))
       → AreBeginnings belongs_to first second items
       → AreTaken lane_rules items replies (fresh class) t told → LeadsTo class (entries_of told) t
   lanes_lead first second items replies t told begin taken =
       taken_leads items replies (fresh class) t told [] (items_are_read belongs_to first second items begin) taken (begins_fresh class)
 
   -- so what is told of them is right
-  pub any_sound : (first second : Option (List ℕ)) (items : List Item) (replies : List Line) (t : State) (told : List (Told TranscriptEntry))
+  any_sound : (first second : Option (List ℕ)) (items : List Item) (replies : List Line) (t : State) (told : List (Told TranscriptEntry))
       → AreBeginnings belongs_to first second items
       → AreTaken lane_rules items replies (fresh class) t told → IsRightSoFar class (entries_of told) t
   any_sound first second items replies t told begin taken = led_right class (entries_of told) t (lanes_lead first second items replies t told begin taken)
+
+  -- beginnings of what is sent are so too
+  begin_less : (first second : Option (List ℕ)) (earlier later : List Item) → AreBeginnings belongs_to first second (earlier ++ later)
+      → AreBeginnings belongs_to first second earlier
+  begin_less first second earlier later begin =
+      let of_lane = λ (lane : Lane). filter-append (λ item. is_lane lane item.lane) earlier later in
+      record {
+        firsts = begins_less belongs_to First first (items_of First (earlier ++ later)) (items_of First earlier) (items_of First later, of_lane First)
+            begin.firsts;
+        seconds = begins_less belongs_to Second second (items_of Second (earlier ++ later)) (items_of Second earlier) (items_of Second later, of_lane Second)
+            begin.seconds;
+      }
 
   pub lanes_sound : (first second replies before after : Option (List ℕ)) → OnlyWrites belongs_to lane_rules (fresh class) first second replies before after
       → TellsSound first second replies before after class
   lanes_sound first second replies before after only =
       let right = any_sound first second only.items only.replies only.state only.told only.begin only.taken in
-      record { written = only; sound = right.sound; safe = right.safe }
+      record {
+        written = only;
+        sound = right.sound;
+        safe = right.safe;
+        settles = right.settles;
+        stays = right.stays;
+        so_far = λ earlier later heard t told split taken.
+            any_sound first second earlier heard t told
+            (begin_less first second earlier later (subst (AreBeginnings belongs_to first second) split only.begin)) taken;
+        watches = lanes_watch;
+      }
 
   -- all that a lane carries is a beginning of it
   all_begins : (lane : Lane) (left : Option (List ℕ)) (items : List Item) → StopsAs belongs_to lane left items Done → Begins belongs_to lane left items
@@ -105,12 +138,3 @@ module _ (class : Option (List ℕ)) where
       } in
       let led = lanes_lead first second whole.items whole.heard whole.state whole.told begin whole.taken in
       record { whole = whole; quiet = led_quiet class (entries_of whole.told) whole.state led (none_from whole.state.out whole.quiet) }
-
--- of two groups a lane carries the one that it is the watch of
-pub lanes_watch : LanesAreWatches
-lanes_watch First groups.Config other = (λ e. refl, λ e. refl)
-lanes_watch First groups.Service other = (λ e. absurd (cc), λ e. absurd (cc))
-lanes_watch First groups.Endpoint other = absurd (other refl)
-lanes_watch Second groups.Config other = (λ e. absurd (cc), λ e. absurd (cc))
-lanes_watch Second groups.Service other = (λ e. refl, λ e. refl)
-lanes_watch Second groups.Endpoint other = absurd (other refl)

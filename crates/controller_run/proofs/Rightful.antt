@@ -16,18 +16,21 @@ use Rattle.core_drive.specs.Drive.{Driven, TranscriptEntry, taking, hearing, cor
 use Rattle.core_drive.specs.Sound.{IsSound, LeadsTo}
 use Rattle.core_drive.proofs.Goes.{begins_fresh, events_go_on, replies_go_on, drives_are_sound, drives_are_quiet}
 use Rattle.core_drive.proofs.Settled.{drives_are_settled}
+use Rattle.fence_rules.proofs.Among.{runs_are_safe_among_others}
+use Rattle.settling_laws.proofs.Explained.{runs_settle_worlds}
+use Rattle.settling_laws.proofs.Staying.{runs_keep_addresses}
 use Rattle.world_rules.proofs.Explaining.{runs_are_safe_in_worlds}
 use Rattle.line_run.specs.Machine.{Transition, Goes, Stops}
 use Rattle.line_run.specs.Run.{run_from, status_at}
 use Rattle.line_run.proofs.Kept.{Kept, StopsIn, run-keeps}
-use Rattle.line_run.specs.RunOutput.{WritesOnly, StopsAs}
+use Rattle.line_run.specs.RunOutput.{StopsAs}
 use Rattle.mlb_edge.specs.declared.lines.Line.{Line}
 use Rattle.mlb_edge.specs.InputLines.{Ending, Whole, LongLine, LongInput, input_of}
 use Rattle.shown_service_laws.proofs.EventTerms.{events_show_terms, events_show_families}
 use Rattle.object_cache.specs.Limits.{most_services}
 use Rattle.controller_run.specs.Causes.{line_causes}
 use Rattle.controller_run.specs.Stream.{goes_by, arrival, event_step, reply_step, step_where, controller_rules, end_of}
-use Rattle.controller_run.specs.Sound.{WritesSound, RunsSound, IsSafeThroughout, RunsSafe, LeavesNothing, EndsQuiet}
+use Rattle.controller_run.specs.Sound.{IsSafeThroughout, SettlesThroughout, KeepsThroughout, LeavesNothing, EndsQuiet}
 
 module _ (class : Option (List ℕ)) where
   -- what goes on from a core goes on from what was told of it
@@ -71,7 +74,7 @@ module _ (class : Option (List ℕ)) where
       lines ending (fresh class) [] (begins_fresh class)
 
   -- so it is sound
-  sound_in : (lines : List Line) (ending : Ending) → IsSound class (run_from controller_rules lines ending (fresh class)).entries
+  pub sound_in : (lines : List Line) (ending : Ending) → IsSound class (run_from controller_rules lines ending (fresh class)).entries
   sound_in lines ending = let led = leads_in lines ending in
       drives_are_sound class (run_from controller_rules lines ending (fresh class)).entries led.state led.kept
 
@@ -80,7 +83,7 @@ module _ (class : Option (List ℕ)) where
   begun_run [] earlier is = is
   begun_run (entry ∷ later) earlier is = (begun_run later (core_entry entry ∷ earlier) is).1
 
-  beginning_run : (first later : List TranscriptEntry) (earlier : List CoreEntry) → IsRun class (behind (first ++ later) earlier)
+  pub beginning_run : (first later : List TranscriptEntry) (earlier : List CoreEntry) → IsRun class (behind (first ++ later) earlier)
       → IsRun class (behind first earlier)
   beginning_run [] later earlier is = begun_run later earlier is
   beginning_run (entry ∷ first) later earlier is = beginning_run first later (core_entry entry ∷ earlier) is
@@ -90,7 +93,7 @@ module _ (class : Option (List ℕ)) where
   begun_terms [] earlier all = all
   begun_terms (entry ∷ later) earlier all = (begun_terms later (core_entry entry ∷ earlier) all).1
 
-  beginning_terms : (first later : List TranscriptEntry) (earlier : List CoreEntry) → AllShowTerms (behind (first ++ later) earlier)
+  pub beginning_terms : (first later : List TranscriptEntry) (earlier : List CoreEntry) → AllShowTerms (behind (first ++ later) earlier)
       → AllShowTerms (behind first earlier)
   beginning_terms [] later earlier all = begun_terms later earlier all
   beginning_terms (entry ∷ first) later earlier all = beginning_terms first later (core_entry entry ∷ earlier) all
@@ -98,10 +101,30 @@ module _ (class : Option (List ℕ)) where
   -- what leads to a core is safe in every world
   pub safe_led : (told : List TranscriptEntry) (s : State) → LeadsTo class told s → IsSafeThroughout class told
   safe_led told s leads first later e =
-      runs_are_safe_in_worlds class (behind first []) (beginning_run first later [] (rw e at leads.is)) (beginning_terms first later [] (rw e at leads.typed))
+      let run = beginning_run first later [] (rw e at leads.is) in (
+        runs_are_safe_in_worlds class (behind first []) run (beginning_terms first later [] (rw e at leads.typed)),
+        runs_are_safe_among_others class (behind first []) run,
+      )
+
+  -- which settles when it is left alone
+  pub settles_led : (told : List TranscriptEntry) (s : State) → LeadsTo class told s → SettlesThroughout class told
+  settles_led told s leads first later e =
+      runs_settle_worlds class (behind first []) (beginning_run first later [] (rw e at leads.is)) (beginning_terms first later [] (rw e at leads.typed))
+
+  -- and along it addresses stay
+  pub stays_led : (told : List TranscriptEntry) (s : State) → LeadsTo class told s → KeepsThroughout class told
+  stays_led told s leads first later e =
+      runs_keep_addresses class (behind first []) (beginning_run first later [] (rw e at leads.is)) (beginning_terms first later [] (rw e at leads.typed))
 
   -- and so is the stream
-  safe_in : (lines : List Line) (ending : Ending) → IsSafeThroughout class (run_from controller_rules lines ending (fresh class)).entries
+  pub settles_in : (lines : List Line) (ending : Ending) → SettlesThroughout class (run_from controller_rules lines ending (fresh class)).entries
+  settles_in lines ending =
+      let led = leads_in lines ending in settles_led (run_from controller_rules lines ending (fresh class)).entries led.state led.kept
+
+  pub stays_in : (lines : List Line) (ending : Ending) → KeepsThroughout class (run_from controller_rules lines ending (fresh class)).entries
+  stays_in lines ending = let led = leads_in lines ending in stays_led (run_from controller_rules lines ending (fresh class)).entries led.state led.kept
+
+  pub safe_in : (lines : List Line) (ending : Ending) → IsSafeThroughout class (run_from controller_rules lines ending (fresh class)).entries
   safe_in lines ending = let led = leads_in lines ending in safe_led (run_from controller_rules lines ending (fresh class)).entries led.state led.kept
 
   ends_done : (o : Option Put) → Done ≡ end_of o → o ≡ None
@@ -129,19 +152,8 @@ module _ (class : Option (List ℕ)) where
       let stops : StopsIn controller_rules led.state Done = rw done at led.stops in
       led_quiet (run_from controller_rules lines ending (fresh class)).entries led.state led.kept (done_in led.state stops)
 
-  pub sound_where_told : (left : Option (List ℕ)) → RunsSound class left
-  sound_where_told None = tt
-  sound_where_told (Some bytes) = sound_in (input_of bytes).lines (input_of bytes).ending
-
-  pub safe_where_told : (left : Option (List ℕ)) → RunsSafe class left
-  safe_where_told None = tt
-  safe_where_told (Some bytes) = safe_in (input_of bytes).lines (input_of bytes).ending
-
   pub quiet_where_done : (left before after : Option (List ℕ)) → StopsAs controller_rules (fresh class) left before after Done
       → EndsQuiet class left before after
   quiet_where_done None before after stops =
       record { lines = stops.0; ending = stops.1; stops = stops.2; quiet = quiet_in stops.0 stops.1 stops.2.0 }
   quiet_where_done (Some bytes) before after stops = quiet_in (input_of bytes).lines (input_of bytes).ending stops.0
-
-  pub only_sound : (before after : Option (List ℕ)) → WritesOnly controller_rules (fresh class) before after → WritesSound class before after
-  only_sound before after only = record { lines = only.lines; wrote = only.wrote; sound = sound_in only.lines Whole; safe = safe_in only.lines Whole }

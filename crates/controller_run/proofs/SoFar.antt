@@ -6,10 +6,13 @@ use Rattle.core_drive.specs.Drive.{TranscriptEntry}
 use Rattle.core_drive.specs.Sound.{LeadsTo}
 use Rattle.core_rules.specs.Core.{State, fresh}
 use Rattle.line_run.specs.Run.{AreTaken}
-use Rattle.controller_run.specs.SoFar.{IsRightSoFar, AnyAreRight}
+use Rattle.line_run.specs.RunOutput.{WritesOnly}
+use Rattle.controller_run.specs.Right.{IsRightRun, WritesRightly}
+use Rattle.controller_run.specs.SoFar.{IsRightSoFar}
 use Rattle.controller_run.specs.Stream.{controller_rules}
-use Rattle.controller_run.proofs.Rightful.{where_goes, safe_led, led_quiet}
+use Rattle.controller_run.proofs.Rightful.{where_goes, safe_led, settles_led, stays_led, led_quiet, sound_in, safe_in, settles_in, stays_in}
 use Rattle.mlb_edge.specs.declared.lines.Line.{Line}
+use Rattle.mlb_edge.specs.InputLines.{Whole}
 
 module _ (class : Option (List ℕ)) where
   pub joined : (a b c : List TranscriptEntry) (s : State) → LeadsTo class ((a ++ b) ++ c) s → LeadsTo class (a ++ (b ++ c)) s
@@ -17,7 +20,13 @@ module _ (class : Option (List ℕ)) where
 
   -- what leads to a core is right
   pub led_right : (told : List TranscriptEntry) (s : State) → LeadsTo class told s → IsRightSoFar class told s
-  led_right told s leads = record { sound = drives_are_sound class told s leads; safe = safe_led class told s leads; quiet = led_quiet class told s leads }
+  led_right told s leads = record {
+    sound = drives_are_sound class told s leads;
+    safe = safe_led class told s leads;
+    settles = settles_led class told s leads;
+    stays = stays_led class told s leads;
+    quiet = led_quiet class told s leads;
+  }
 
   -- lines that are taken
   pub lines_lead : (lines : List Line) (s t : State) (entries told : List TranscriptEntry) → AreTaken controller_rules lines s t entries → LeadsTo class told s
@@ -27,5 +36,21 @@ module _ (class : Option (List ℕ)) where
       let one = where_goes class s.out s line refl next first told steps leads in
       rw is (joined told first rest t (lines_lead lines next t rest (told ++ first) more one))
 
-  pub any_right : AnyAreRight class
+  -- what is told of any lines that are taken is right
+  any_right : (lines : List Line) (s : State) (told : List TranscriptEntry) → AreTaken controller_rules lines (fresh class) s told → IsRightSoFar class told s
   any_right lines s told taken = led_right told s (lines_lead lines (fresh class) s told [] taken (begins_fresh class))
+
+  -- and so is the run of any lines, and what is written of it
+  right_in : (lines : List Line) → IsRightRun class lines
+  right_in lines =
+      record {
+        sound = sound_in class lines Whole;
+        safe = safe_in class lines Whole;
+        settles = settles_in class lines Whole;
+        stays = stays_in class lines Whole;
+        so_far = λ earlier later s told split taken. any_right earlier s told taken;
+      }
+
+  pub writes_rightly : (left before after : Option (List ℕ)) → WritesOnly controller_rules (fresh class) left before after
+      → WritesRightly class left before after
+  writes_rightly left before after only = record { written = only; right = right_in only.lines }

@@ -1,18 +1,7 @@
 -- What the words of the command line ask for: a run over lines or over two lanes, for the services of a class or for those of none, or a trial.
-use Rattle.std.specs.Prelude.{ℕ, List, Option, Some, None}
+use Rattle.std.specs.Prelude.{ℕ, List, Option}
 use Rattle.command_options.specs.Lanes.{LaneNames}
-use Rattle.controller_words.specs.Reading.{asked_in}
-use Rattle.controller_words.specs.Words.{AskedValue, Run, Trial, Lanes, Say}
-
-abbrev pub class_by : Option AskedValue → Option (List ℕ)
-class_by None = None
-class_by (Some (Run class)) = class
-class_by (Some (Trial seed steps)) = None
-class_by (Some (Lanes class files)) = class
-
--- the class of the services that a run handles; with none, those that name none are
-abbrev pub class_of : List (List ℕ) → Option (List ℕ)
-class_of words = class_by (asked_in words)
+use Rattle.controller_words.specs.Words.{Run, Trial, Lanes, Say}
 
 -- the words ask for a run over one stream
 abbrev pub AskRun : List (List ℕ) → Type 0

@@ -1,5 +1,5 @@
 -- What the controller owes where the words ask for a run over two lanes. Each definition is of the class and the files that they name.
-use Rattle.std.specs.Prelude.{◌≡◌, ◌≢◌, ◌⊎◌, ◌↔◌, ℕ, Bool, true, ⊤, List, String, Option, Some}
+use Rattle.std.specs.Prelude.{◌≡◌, ◌≢◌, ◌⊎◌, ◌↔◌, ℕ, Bool, true, ⊤, List, ◌++◌, String, Option, Some}
 use Rattle.command_options.specs.Lanes.{LaneNames}
 use Rattle.command_options.specs.Options.{texts_of}
 use Rattle.core_drive.specs.Drive.{TranscriptEntry}
@@ -16,7 +16,6 @@ use Rattle.lane_drive.specs.Clauses as lanes
 use Rattle.lane_drive.specs.Complete as can_be_done
 use Rattle.lane_drive.specs.Drive.{Told, AreTaken, entries_of}
 use Rattle.lane_drive.specs.Files.{FilesState}
-use Rattle.lane_drive.specs.Stops.{AreBeginnings}
 use Rattle.lane_mail.specs.declared.item.Item.{Item}
 use Rattle.lane_mail.specs.declared.lane.Lane.{Lane}
 use Rattle.lane_run.specs.Opening.{MayBeOpened}
@@ -27,9 +26,10 @@ use Rattle.line_run.specs.Clauses.{CanPass}
 use Rattle.mlb_edge.specs.Reading.{Reading}
 use Rattle.mlb_edge.specs.declared.lines.Line.{Line}
 use Rattle.controller_run.specs.Asked.{AskLanes}
+use Rattle.controller_run.specs.LaneExchanges.{LanesWriteSafely}
 use Rattle.controller_run.specs.Lanes.{belongs_to, carries, lane_group, lane_rules, name_of}
 use Rattle.controller_run.specs.SoFar.{IsRightSoFar}
-use Rattle.controller_run.specs.Sound.{IsSafeThroughout, LeavesNothing}
+use Rattle.controller_run.specs.Sound.{IsSafeThroughout, SettlesThroughout, KeepsThroughout, LeavesNothing}
 use Rattle.controller_run.specs.Stream.{IsCause}
 
 -- where the words ask for a run over two lanes, this is so of the class and the files that they name
@@ -75,27 +75,31 @@ abbrev pub LanesDone : (List ℕ → Option (List ℕ)) → Status → (left lef
 LanesDone bytes status left left' before after class files =
     lanes.AtDone belongs_to lane_rules (fresh class) (bytes files.first) (bytes files.second) status left left' before after
 
+-- of the configuration and the services a lane carries just that which it is the watch of
+abbrev pub LanesAreWatches : Type 0
+LanesAreWatches = (lane : Lane) (group : ListGroup) → group ≢ groups.Endpoint → (carries lane (Some group) ≡ true) ↔ (lane_group lane ≡ group)
+
 -- A beginning of the text of some items was written, of each file a beginning of what it carries, with the first lines of the input as the
--- replies; and what was told of them is sound, and safe in every world that explains it.
+-- replies; and what was told of them is sound, and safe in every world that explains it, which settles when it is left alone, and along it addresses stay. So
+-- it is behind each beginning of them that is taken, with whatever replies, and where no put is out behind it nothing is left waiting.
 pub record TellsSound (first second replies before after class : Option (List ℕ)) : Type 0 where
   pub written : lanes.OnlyWrites belongs_to lane_rules (fresh class) first second replies before after
   pub sound : IsSound class (entries_of written.told)
   pub safe : IsSafeThroughout class (entries_of written.told)
+  pub settles : SettlesThroughout class (entries_of written.told)
+  pub stays : KeepsThroughout class (entries_of written.told)
+  pub so_far : (earlier later : List Item) (heard : List Line) (t : State) (told : List (Told TranscriptEntry)) → written.items ≡ earlier ++ later
+      → AreTaken lane_rules earlier heard (fresh class) t told → IsRightSoFar class (entries_of told) t
+  -- the list that is begun anew where a lane's watch has expired is of what the lane carries
+  pub watches : LanesAreWatches
 
 -- so it is however the run ends
 abbrev pub LanesSound : (List ℕ → Option (List ℕ)) → (replies before after : Option (List ℕ)) → Option (List ℕ) → LaneNames → Type 0
 LanesSound bytes replies before after class files = TellsSound (bytes files.first) (bytes files.second) replies before after class
 
--- whatever items are taken from the start, of each lane a beginning of what some file carries, and with whatever replies: what is told of them is
--- sound, and safe in every world that explains it, and where no put is out behind them nothing is left waiting
-abbrev pub LanesAreSound : Option (List ℕ) → LaneNames → Type 0
-LanesAreSound class files = (first second : Option (List ℕ)) (items : List Item) (replies : List Line) (t : State) (told : List (Told TranscriptEntry))
-    → AreBeginnings belongs_to first second items → AreTaken lane_rules items replies (fresh class) t told
-    → IsRightSoFar class (entries_of told) t
-
--- of the configuration and the services a lane carries just that which it is the watch of
-abbrev pub LanesAreWatches : Type 0
-LanesAreWatches = (lane : Lane) (group : ListGroup) → group ≢ groups.Endpoint → (carries lane (Some group) ≡ true) ↔ (lane_group lane ≡ group)
+-- what was read and written is safe in each world in which it is seen
+abbrev pub LanesSafe : (List ℕ → Option (List ℕ)) → (replies before after : Option (List ℕ)) → Option (List ℕ) → LaneNames → Type 0
+LanesSafe bytes replies before after class files = LanesWriteSafely (bytes files.first) (bytes files.second) replies before after
 
 -- All that both files carry was taken, nothing is left waiting that could be served, and each settled service has its own.
 pub record LeavesServed (first second left left' before after class : Option (List ℕ)) : Type 0 where

@@ -2,8 +2,10 @@ pub mod Asked
 pub mod Causes
 pub mod Clauses
 pub mod LaneClauses
+pub mod LaneExchanges
 pub mod Lanes
 pub mod Output
+pub mod Right
 pub mod SoFar
 pub mod Sound
 pub mod Stream

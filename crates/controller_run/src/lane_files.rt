@@ -7,7 +7,7 @@ ghost use Rattle.lane_drive.specs.Files.{files_state};
 ghost use Rattle.lane_run.specs.Outside.{source_state};
 ghost use Rattle.line_run.specs.Clauses.{AtWriteFault};
 ghost use Rattle.controller_run.specs.LaneClauses.{LanesMayAsk, LanesMayOpen, LanesMayWait, LanesMayDrop, LanesEnd, LanesComplete};
-ghost use Rattle.controller_run.specs.LaneClauses.{LanesDone, LanesSound, LanesQuiet, CanEndLanes, LaneOpenFault, LaneReadFault, LaneOthers};
+ghost use Rattle.controller_run.specs.LaneClauses.{LanesDone, LanesSafe, LanesSound, LanesQuiet, CanEndLanes, LaneOpenFault, LaneReadFault, LaneOthers};
 
 use crate::controller::Controller;
 use command_options::LaneFiles;
@@ -59,6 +59,8 @@ pub(crate) fn lanes_controller<
         (S.left input.old) (S.left input.new) (K.written out.old) (K.written out.new)
         (option_map (λ c. c.now) class.entry) (lane_seen lanes.entry) }
     ensures sound { LanesSound (F.bytes files.old) (S.left input.old) (K.written out.old) (K.written out.new)
+        (option_map (λ c. c.now) class.entry) (lane_seen lanes.entry) }
+    ensures safe { LanesSafe (F.bytes files.old) (S.left input.old) (K.written out.old) (K.written out.new)
         (option_map (λ c. c.now) class.entry) (lane_seen lanes.entry) }
     ensures open_fault { LaneOpenFault result
         (files_state (F.failed_opens files.old) (F.failed_reads files.old))

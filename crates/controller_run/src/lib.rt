@@ -5,7 +5,6 @@ mod controller;
 mod events;
 mod lane_files;
 mod lanes;
-mod laws;
 mod line;
 mod output;
 mod run;

@@ -8,16 +8,15 @@ ghost use Rattle.lane_run.specs.Outside.{source_state};
 ghost use Rattle.line_run.specs.Clauses.{AtReadFault, AtWriteFault, RunOwes};
 ghost use Rattle.command_options.specs.Options.{texts_of};
 ghost use Rattle.controller_words.specs.Words.{AreKnown};
-ghost use Rattle.controller_run.specs.Asked.{AskLanes, AskNoLanes, AskRun};
+ghost use Rattle.core_rules.specs.Core.{fresh};
+ghost use Rattle.controller_run.specs.Asked.{AskLanes, AskNoLanes};
 ghost use Rattle.controller_run.specs.LaneClauses.{OverLanes, LanesMayAsk, LanesMayOpen, LanesMayWait, LanesMayDrop, LanesEnd};
-ghost use Rattle.controller_run.specs.LaneClauses.{LanesComplete, LanesDone, LanesSound, LanesAreSound, LanesAreWatches};
+ghost use Rattle.controller_run.specs.LaneClauses.{LanesComplete, LanesDone, LanesSafe, LanesSound};
 ghost use Rattle.controller_run.specs.LaneClauses.{LanesQuiet, LaneCanEnd, LaneOpenFault, LaneReadFault, LaneOthers};
-ghost use Rattle.controller_run.specs.Clauses.{begun_by, MayAskAnswered, CanEnd, WritesSound, RunsSound, RunsSafe};
-ghost use Rattle.controller_run.specs.Clauses.{AnyAreRight, EndsQuiet, HandlesNamed, WritesTrial, LeavesInput, TrialIsSafe};
+ghost use Rattle.controller_run.specs.Clauses.{OverStream, MayAskAnswered, CanEnd, WritesRightly, WritesSafely, EndsQuiet, WritesTrial, LeavesInput};
 ghost use Rattle.controller_run.specs.Stream.{IsCause, controller_rules};
 
 use crate::lane_files::lanes_controller;
-use crate::laws::{lanes_are_sound, runs_rightly};
 use crate::stream::stream_controller;
 use controller_words::{Asked, LaneFiles, controller_words};
 use kube_model::Status;
@@ -60,7 +59,6 @@ pub fn run_controller<
     ensures no_file { AskNoLanes (texts_of words.now) → files.new ≡ files.old }
     ensures can_end { AskNoLanes (texts_of words.now) → CanEnd result }
     ensures usage { (result ≡ Status.Usage) ↔ (¬ (AreKnown (texts_of words.now))) }
-    ensures named { HandlesNamed words.now }
     ensures unused { result ≡ Status.Usage → (input.new ≡ input.old) × (out.new ≡ out.old) }
 
     // A fault comes only where its count rose.
@@ -68,26 +66,32 @@ pub fn run_controller<
     ensures write_fault { AtWriteFault result (K.faults out.old) (K.faults out.new) }
 
     // What was read and written, whatever the status, where the words ask for a run over the input.
-    ensures run { AskRun (texts_of words.now) → RunOwes controller_rules IsCause (begun_by words.now) result
-        (S.left input.old) (S.left input.new) (K.written out.old) (K.written out.new) }
+    ensures run { OverStream words.now (λ class. RunOwes controller_rules IsCause (fresh class) result
+        (S.left input.old) (S.left input.new) (K.written out.old) (K.written out.new)) }
 
-    // Over any input at all a beginning of the text of some lines' run was written, and that run is
-    // sound: each put, each reason and each note is right by the transcript before it, no key is
-    // chosen for too early, and an address that is put is marked by the terms of its service, and shared by
-    // these with whoever else has or may have it. At each moment two services that have or may have one
-    // address share it by the terms of their claims, or the cluster showed it so. So is the run of the
-    // input, where the source tells its bytes.
-    ensures only { WritesSound words.now K.written out.old out.new }
-    ensures sound { RunsSound words.now (S.left input.old) }
+    // Over any input at all a beginning of the text of its lines' run was written, of the class that the words name, and that run is right: it is
+    // sound, since each put, each reason and each note is right by the transcript before it, no key is chosen for too early, and an address that is
+    // put is marked by the terms of its service, and shared by these with whoever else has or may have it. At each moment two services that have or
+    // may have one address share it by the terms of their claims, or the cluster showed it so. And it is safe: whatever store there is, whoever else
+    // edits it, in whatever order it is listed and however late its changes are shown, where that explains what was read so far, services recorded
+    // with one address share it by the terms of their marks, where both have one, at each moment, and also where a last put that has no reply yet
+    // reached the store.
+    // And it settles: wherever it has come to in such a world, left alone it takes and puts no more
+    // often than is said beforehand of what is held and pending. In whatever order it does so: once
+    // nothing is left of that, each stored service has what is chosen for it by what is stored,
+    // unless a put was refused for good.
+    // And an address stays: as long as a service for which it was put and stored, the labels of its
+    // namespace and the configuration are as they were shown, and no other service is shown with
+    // one of its addresses, no put changes them.
+    // So it is however far the run has come, and where no put is out no service is left waiting that
+    // could be served.
+    ensures only { WritesRightly words.now (S.left input.old) K.written out.old out.new }
 
-    // Whatever store there is, whoever else edits it, in whatever order it is listed and however late its changes are shown: where
-    // that explains what was read so far, services recorded with one address share it by the terms of their marks, where both have
-    // one, at each moment, and also where a last put that has no reply yet reached the store.
-    ensures safe { RunsSafe words.now (S.left input.old) }
-
-    // However far a run has come, also where it is stopped from outside: what is told of any lines that were taken is sound and safe so. Where
-    // no put is out behind them no service is left waiting that could be served: so, with what `live` asks, whenever the next event is waited for.
-    ensures any { AnyAreRight words.now }
+    // Two services never wrongly share an address. What was written is a beginning of what was written of the first lines of the input, each of which is
+    // an event, or the reply to the put before it. Whatever store there was at the start, whoever edits it and however late its changes are shown,
+    // where that is what was read and written so far, services that are recorded with one address share it by the terms of their marks, where both
+    // have one: at each moment, and also where a last put that has no reply yet reached the store.
+    ensures safe { WritesSafely words.now (S.left input.old) K.written out.old out.new }
 
     // Where the run is done, no service is left waiting that could be served. Each that is settled has what serves it, or a reason that
     // holds now; or none, where it isn't of type LoadBalancer.
@@ -97,7 +101,6 @@ pub fn run_controller<
     // one address, unless they share it.
     ensures trial { WritesTrial words.now result K.written out.old out.new }
     ensures trial_unread { LeavesInput words.now input.old input.new }
-    ensures trial_safe { TrialIsSafe words.now }
 
     // Where the words ask for a run over two files: how it ended, once both are open, and with which statuses it may.
     ensures lanes { OverLanes words.now (LanesEnd (F.bytes files.old) (F.safe files.old)
@@ -116,16 +119,14 @@ pub fn run_controller<
         (S.left input.old) (S.left input.new) (K.written out.old) (K.written out.new)) }
 
     // However it ends, and in whatever order the events of both came, a beginning of the text of what was taken was written. That is sound, as
-    // a run over one stream is, and in every world that explains it services recorded with one address share it by the terms of their marks.
+    // a run over one stream is: in every world that explains it services recorded with one address
+    // share it by the terms of their marks, it settles when it is left alone, and addresses stay;
+    // and so it is however far the run has come. The list that is begun anew where a lane's watch has
+    // expired is of what the lane carries.
     ensures lanes_sound { OverLanes words.now (LanesSound (F.bytes files.old) (S.left input.old) (K.written out.old) (K.written out.new)) }
 
-    // However far a run has come when it is stopped from outside: what is told of any items that were taken, with any replies, is sound and safe
-    // so, and leaves no service waiting that could be served where no put is out behind them. That just their text stands written wherever more is
-    // waited for, and that no put is out where the next item is, is what `lanes_wait` and `lanes_live` ask.
-    ensures lanes_any { OverLanes words.now LanesAreSound }
-
-    // The group whose list is begun anew where a lane's watch has expired is that of the configuration and the services which the lane carries.
-    ensures lane_groups { LanesAreWatches }
+    // And what was read of both, in some order, and of the input and written is safe in each world in which it is seen, as over one stream.
+    ensures lanes_safe { OverLanes words.now (LanesSafe (F.bytes files.old) (S.left input.old) (K.written out.old) (K.written out.new)) }
 
     // Where all can be taken in whatever order it comes, with a reply to each put and no line behind the last, and no count of faults rises,
     // it is done, but for want of memory.
@@ -148,8 +149,6 @@ pub fn run_controller<
         (files_state (F.failed_opens files.new) (F.failed_reads files.new))) }
     ensures lane_bytes { (file : List ℕ) → F.bytes files.new file ≡ F.bytes files.old file }
 {
-    runs_rightly::<S, K>(words, input);
-    lanes_are_sound(words);
     match lanes_asked(words) {
         None => stream_controller(alloc, words, input, out),
         Some((class, lanes)) => lanes_controller(rt, alloc, class, lanes, files, input, out),

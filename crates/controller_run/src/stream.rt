@@ -3,12 +3,12 @@ ghost use Rattle.std.specs.Prelude.{◌≡◌, ◌↔◌};
 ghost use Rattle.line_run.specs.Clauses.{AtReadFault, AtWriteFault, RunOwes};
 ghost use Rattle.command_options.specs.Options.{texts_of};
 ghost use Rattle.controller_words.specs.Words.{AreKnown};
-ghost use Rattle.controller_run.specs.Asked.{AskNoLanes, AskRun};
-ghost use Rattle.controller_run.specs.Clauses.{begun_by, MayAskAnswered, CanEnd, WritesSound, EndsQuiet, WritesTrial, LeavesInput, RunsRightly};
+ghost use Rattle.core_rules.specs.Core.{fresh};
+ghost use Rattle.controller_run.specs.Asked.{AskNoLanes};
+ghost use Rattle.controller_run.specs.Clauses.{OverStream, MayAskAnswered, CanEnd, WritesRightly, WritesSafely, EndsQuiet, WritesTrial, LeavesInput};
 ghost use Rattle.controller_run.specs.Stream.{IsCause, controller_rules};
 
 use crate::controller::Controller;
-use crate::laws::runs_rightly;
 use crate::trial::run_trial;
 use controller_words::{Asked, controller_words};
 use kube_model::Status;
@@ -37,22 +37,19 @@ pub fn stream_controller<S: PacedSource<K>, K: Sink>(
     ensures write_fault { AtWriteFault result (K.faults out.old) (K.faults out.new) }
 
     // What was read and written, whatever the status, where the words ask for a run over the input.
-    ensures run { AskRun (texts_of words.now) → RunOwes controller_rules IsCause (begun_by words.now) result
-        (S.left input.old) (S.left input.new) (K.written out.old) (K.written out.new) }
+    ensures run { OverStream words.now (λ class. RunOwes controller_rules IsCause (fresh class) result
+        (S.left input.old) (S.left input.new) (K.written out.old) (K.written out.new)) }
 
-    // A beginning of the text of some lines' run was written, which is sound and safe; and where the run is done, nothing is left waiting.
-    ensures only { WritesSound words.now K.written out.old out.new }
+    // A beginning of the text of its lines' run was written, which is sound and safe; and where the run is done, nothing is left waiting.
+    ensures only { WritesRightly words.now (S.left input.old) K.written out.old out.new }
+    // What was read and written is safe in each world in which it is seen.
+    ensures safe { WritesSafely words.now (S.left input.old) K.written out.old out.new }
     ensures quiet { EndsQuiet words.now result (S.left input.old) K.written out.old out.new }
 
-    // Where the words ask for a trial nothing is read, and just its text is written.
+    // Where the words ask for a trial nothing is read, and just its text is written; and it is safe.
     ensures trial { WritesTrial words.now result K.written out.old out.new }
     ensures trial_unread { LeavesInput words.now input.old input.new }
-
-    // Whatever was written, the run of the input is of the class of the words, sound and safe; what is told of any lines is so, and leaves
-    // nothing waiting where no put is out; and a trial is safe.
-    ensures right { RunsRightly words.now (S.left input.old) }
 {
-    runs_rightly::<S, K>(words, input);
     let class = match controller_words(words) {
         None => return Status::Usage,
         Some(Asked::Trial { seed, steps }) => return run_trial(alloc, seed, steps, out),

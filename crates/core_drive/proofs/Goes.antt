@@ -24,7 +24,7 @@ use Rattle.core_drive.specs.Laws.{BeginsFresh, EventsGoOn, ExpiriesGoOn, Replies
 use Rattle.core_drive.specs.Sound.{AreNotesRight, LeadsTo, ShowsTerms, ShowsFamilies, HasFamilies}
 
 -- ---- transcripts one behind the other
-behind-append : (xs ys : List TranscriptEntry) (earlier : List CoreEntry) → behind (xs ++ ys) earlier ≡ behind ys (behind xs earlier)
+pub behind-append : (xs ys : List TranscriptEntry) (earlier : List CoreEntry) → behind (xs ++ ys) earlier ≡ behind ys (behind xs earlier)
 behind-append [] ys earlier = refl
 behind-append (x ∷ xs) ys earlier = behind-append xs ys (core_entry x ∷ earlier)
 

@@ -12,13 +12,12 @@ use Rattle.kube_model.specs.declared.service.Service.{Service}
 use Rattle.object_history.specs.Observations.{Observation, WatchExpired}
 use Rattle.object_history.specs.Cache.{cached, cached_after}
 use Rattle.claim_index.specs.Claims.{loses}
-use Rattle.kube_model.specs.Records.{same_record}
 use Rattle.kube_model.specs.Keys.{same_key, has_key}
 use Rattle.kube_model.proofs.KeyLaws.{same_key-is, same_key-itself}
 use Rattle.core_rules.specs.declared.turn.Turn.{Turn}
 use Rattle.core_rules.specs.declared.turn.Turn.TheVariants.{NoPut, Wants}
 use Rattle.core_rules.specs.Core.{State, is_ready, service_of, waiting}
-use Rattle.core_rules.specs.Turn.{turn_of, turn_at, rest_of, put_in, wanted_record, chosen_at}
+use Rattle.core_rules.specs.Turn.{turn_of, turn_at, rest_of, put_in}
 use Rattle.core_rules.specs.Replied.{replied_to, put_terms}
 use Rattle.core_rules.specs.Run.{TranscriptEntry, Took, Expired, Turned, Heard, core_after, IsRun, observed}
 use Rattle.core_rules.proofs.Runs.{core_holds_what_was_observed}
@@ -27,6 +26,7 @@ use Rattle.core_laws.specs.Waits.{is_turn_of, TurnsAreOfFreeKeys}
 use Rattle.core_laws.proofs.Awaiting.{awaiting-is}
 use Rattle.core_laws.proofs.QueueOnce.{waiting-new}
 use Rattle.core_laws.proofs.Orderly.{AreAdded, IsInOrder, added, new-added, empty-order, sorted-services, took-order}
+use Rattle.core_laws.proofs.Kept.{kept_at}
 use Rattle.core_laws.proofs.Puts.{IsWanted, wanted-of}
 use Rattle.core_laws.proofs.QuietRuns.{wants-some, none-some}
 use Rattle.core_laws.proofs.Rows.{has_key-append}
@@ -126,7 +126,7 @@ turn-by false k key pending version holding = refl
 
 turn-key : (found : Option Service) (s : State) (k key : Key) → is_turn_of (turn_at s k found) key ≡ same_key k key
 turn-key None s k key = refl
-turn-key (Some service) s k key = turn-by (same_record (wanted_record service.holding (chosen_at s service)) service.holding) k key _ _ _
+turn-key (Some service) s k key = turn-by (kept_at s service) k key _ _ _
 
 front-there : (queue : List Key) (s : State) (key : Key) → is_turn_of (turn_of s queue) key ≡ true → has_key queue key ≡ true
 front-there [] s key e = absurd (cc)

@@ -2,13 +2,16 @@ pub mod Ages
 pub mod Assigned
 pub mod Awaiting
 pub mod Came
+pub mod Certain
 pub mod Claimed
 pub mod Classes
 pub mod Expired
 pub mod Free
+pub mod Kept
 pub mod Keyed
 pub mod NoPuts
 pub mod Orderly
+pub mod Others
 pub mod Puts
 pub mod QueueOnce
 pub mod Queued

@@ -1,5 +1,6 @@
 -- Each put is what is chosen by what the look back shows.
-use Rattle.std.proofs.Common.{◌≡◌, ◌≢◌, ℕ, Bool, true, false, cond, ◌&&◌, List, [], ◌∷◌, Option, Some, None, is_some, option_map, refl, sym, ap, subst, ◌∙◌}
+use Rattle.std.proofs.Common.{◌≡◌, ◌≢◌, ℕ, Bool, true, false, cond, ◌&&◌, List, [], ◌∷◌, Option, Some, None, is_some, option_map}
+use Rattle.std.proofs.Common.{◌⊎◌, inl, inr, ⊎_elim, refl, sym, ap, subst, ◌∙◌}
 use Rattle.std.proofs.lemmas.Bool.{true≢false}
 use Rattle.std.specs.Option.{option_map_or}
 use Rattle.kube_model.specs.declared.event.Event.{Event}
@@ -25,18 +26,19 @@ use Rattle.object_history.proofs.Force.{all_is_as_shown}
 use Rattle.alloc_book.specs.Asking.{Offer}
 use Rattle.alloc_book.specs.Chosen.{IsChosen}
 use Rattle.alloc_book.specs.declared.choice.Choice.{Choice}
+use Rattle.alloc_book.specs.declared.choice.Choice.TheVariants.{Foreign}
 use Rattle.kube_model.specs.Records.{same_record}
 use Rattle.kube_model.specs.Service.{same_class}
 use Rattle.mlb_base.proofs.CaseLaws.{case-has}
-use Rattle.claim_index.specs.Claims.{Holders, holders}
+use Rattle.claim_index.specs.Claims.{Holders, holders, claims_of}
 use Rattle.kube_model.proofs.RecordLaws.{same_record-itself}
 use Rattle.alloc_book.proofs.ChooseLaws.{choose-is}
 use Rattle.alloc_book.proofs.PendingLaws.{chosen-by}
 use Rattle.core_rules.specs.declared.turn.Turn.{Turn}
 use Rattle.core_rules.specs.declared.turn.Turn.TheVariants.{Idle, NoPut, Wants}
-use Rattle.core_rules.specs.Core.{State, is_ready, service_of, labels_of, offer_at, offer_in, pools_in}
+use Rattle.core_rules.specs.Core.{State, is_ready, service_of, labels_of, offer_at, offer_in, pools_in, own_claims, has_other}
 use Rattle.core_rules.specs.Take.{core_by, core_take}
-use Rattle.core_rules.specs.Turn.{wanted_record, reason_in, chosen_at, turn_at, turn_of}
+use Rattle.core_rules.specs.Turn.{wanted_record, reason_in, is_foreign, chosen_at, turn_at, turn_of}
 use Rattle.core_rules.specs.Replied.{replied_to}
 use Rattle.core_rules.specs.Run.{TranscriptEntry, Took, Expired, Turned, Heard, core_after, IsRun, observed, claims_shown}
 use Rattle.core_rules.proofs.Claims.{shown-held, claims_are_shown}
@@ -44,6 +46,9 @@ use Rattle.core_rules.proofs.Effects.{by_effect}
 use Rattle.core_rules.proofs.Runs.{core_holds_what_was_observed}
 use Rattle.core_laws.specs.Puts.{labels_shown, IsRightDecision, PutsAreRight, TurnsAreReady}
 use Rattle.core_laws.proofs.Classes.{by-test, same_class-is}
+use Rattle.core_laws.proofs.Kept.{kept_at, due-by, wanted-own}
+use Rattle.core_laws.proofs.Keyed.{service-key}
+use Rattle.core_laws.proofs.Others.{other-claims}
 use Rattle.core_laws.proofs.Ready.{runs-idle}
 
 -- ---- the class
@@ -73,12 +78,13 @@ pub record IsWanted (s : State) (put : Put) (pending : Option Reason) (queue : L
   pub found : service_of s.held put.key ≡ Some service
   pub version_is : put.version ≡ version_at key_cmp s.held.services put.key
   pub holding_is : put.holding ≡ wanted_record service.holding (chosen_at s service)
-  pub differs : same_record put.holding service.holding ≡ false
+  pub own : chosen_at s service ≢ Foreign
+  pub due : (same_record put.holding service.holding ≡ false) ⊎ (has_other service s.claims ≡ true)
   pub reason_is : pending ≡ reason_in (chosen_at s service)
 
 wanted-by : (b : Bool) (s : State) (key : Key) (rest : List Key) (service : Service) (put : Put) (pending : Option Reason)
     → service_of s.held key ≡ Some service
-    → b ≡ same_record (wanted_record service.holding (chosen_at s service)) service.holding
+    → b ≡ kept_at s service
     → Wants put pending ≡ cond b (NoPut key (reason_in (chosen_at s service))) (Wants (record {
       key = key;
       version = version_at key_cmp s.held.services key;
@@ -98,7 +104,11 @@ wanted-by false s key rest service put pending found b e =
       found = subst (λ x. service_of s.held x ≡ Some service) k found;
       version_is = ap (λ (x : Put). x.version) p ∙ ap (version_at key_cmp s.held.services) k;
       holding_is = h;
-      differs = ap (λ x. same_record x service.holding) h ∙ sym b;
+      own = wanted-own (chosen_at s service) _ (sym b);
+      due =
+          subst (λ (x : Record). (same_record x service.holding ≡ false) ⊎ (has_other service s.claims ≡ true)) (sym h)
+          (due-by (is_foreign (chosen_at s service)) (same_record (wanted_record service.holding (chosen_at s service)) service.holding)
+          (has_other service s.claims) (sym b));
       reason_is = r;
     }
 
@@ -106,7 +116,7 @@ wanted-at : (found : Option Service) (s : State) (key : Key) (rest : List Key) (
     → Wants put pending ≡ turn_at s key found → IsWanted s put pending (key ∷ rest)
 wanted-at None s key rest put pending f e = absurd (cc)
 wanted-at (Some service) s key rest put pending f e =
-    wanted-by (same_record (wanted_record service.holding (chosen_at s service)) service.holding) s key rest service put pending f refl e
+    wanted-by (kept_at s service) s key rest service put pending f refl e
 
 pub wanted-of : (s : State) (queue : List Key) (put : Put) (pending : Option Reason) → Wants put pending ≡ turn_of s queue → IsWanted s put pending queue
 wanted-of s [] put pending e = absurd (cc)
@@ -166,7 +176,7 @@ busy-by false key pending put e = absurd (cc)
 
 busy-at : (found : Option Service) (s : State) (key : Key) → turn_at s key found ≢ Idle
 busy-at None s key e = absurd (cc)
-busy-at (Some service) s key e = busy-by (same_record (wanted_record service.holding (chosen_at s service)) service.holding) key _ _ e
+busy-at (Some service) s key e = busy-by (kept_at s service) key _ _ e
 
 pub idle-queue : (s : State) (queue : List Key) → turn_of s queue ≡ Idle → queue ≡ []
 idle-queue s [] e = refl
@@ -255,13 +265,12 @@ wanted-as class key pending earlier service d =
     ap (λ (x : Service). wanted_record x.holding (chosen_at (core_after class earlier) service)) d.object_is
     ∙ ap (wanted_record d.right.held.object.holding) d.choice_is
 
--- a service of another class keeps its record, so a put is for one of its own
-own-of : (has : Holders) (o : Offer) (class : Option (List ℕ)) (service : Service) (c : Choice) → IsChosen has o class service c
-    → wanted_record service.holding c ≢ service.holding
+-- something is chosen for a service of its own class alone
+own-of : (has : Holders) (o : Offer) (class : Option (List ℕ)) (service : Service) (c : Choice) → IsChosen has o class service c → c ≢ Foreign
     → service.balancer ≡ true → service.class ≡ class
-own-of has o class service c chosen differs balancer =
+own-of has o class service c chosen own balancer =
     case-has _ _ _ _
-    (λ _ foreign. absurd (differs (ap (wanted_record service.holding) foreign)))
+    (λ _ foreign. absurd (own foreign))
     (λ one _. by-test (same_class class service.class) (same_class-is class service.class) (λ other. one (balancer, other)))
     chosen
 
@@ -271,14 +280,18 @@ puts_are_right class put pending earlier is =
     let wanted : IsWanted s put pending s.queue = wanted-of s s.queue put pending is.0.1 in
     let d : IsDecidedAs class put.key pending earlier wanted.service =
     decided class (Wants put pending) earlier is (wants-busy put pending) put.key pending wanted.service wanted.found wanted.reason_is in
-    let holding_is : put.holding ≡ wanted_record d.right.held.object.holding d.right.choice =
-    wanted.holding_is ∙ wanted-as class put.key pending earlier wanted.service d in
-    let differs : put.holding ≢ d.right.held.object.holding =
-    subst (λ (x : Service). put.holding ≢ x.holding) d.object_is (differs-from put.holding wanted.service.holding wanted.differs) in
     record {
       decision = d.right;
       version_is = wanted.version_is ∙ d.version_is;
-      holding_is = holding_is;
-      differs = differs;
-      own = own-of _ _ class d.right.held.object d.right.choice d.right.chosen (λ e. differs (holding_is ∙ e));
+      holding_is = wanted.holding_is ∙ wanted-as class put.key pending earlier wanted.service d;
+      due =
+          ⊎_elim
+          (λ differs. inl (subst (λ (x : Service). put.holding ≢ x.holding) d.object_is (differs-from put.holding wanted.service.holding differs)))
+          (λ other.
+          let of : wanted.service.key ≡ put.key = service-key class earlier is.1 put.key wanted.service wanted.found in
+          inr (λ alone.
+          other-claims s.claims wanted.service other
+          (ap (λ (k : Key). claims_of k s.claims) of ∙ claims_are_shown class earlier is.1 put.key ∙ alone ∙ ap own_claims (sym d.object_is))))
+          wanted.due;
+      own = own-of _ _ class d.right.held.object d.right.choice d.right.chosen (λ e. wanted.own (d.choice_is ∙ e));
     }

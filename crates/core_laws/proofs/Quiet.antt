@@ -22,10 +22,11 @@ use Rattle.mlb_base.proofs.CaseLaws.{case-has, fails}
 use Rattle.alloc_book.proofs.ChooseLaws.{choose-is}
 use Rattle.kube_model.proofs.KeyLaws.{same_key-is}
 use Rattle.core_rules.specs.declared.turn.Turn.TheVariants.{NoPut, Wants}
-use Rattle.core_rules.specs.Core.{State, is_ready, service_of, offer_in, is_settled, waits}
+use Rattle.core_rules.specs.Core.{State, is_ready, service_of, offer_in, has_other, is_settled, waits}
 use Rattle.core_rules.specs.Turn.{wanted_record, reason_in, chosen_at, turn_at, turn_of, rest_of, put_in, after_turn}
 use Rattle.core_laws.specs.Quiet.{MeetsRow, is_put_of, IsQuiet}
 use Rattle.core_laws.proofs.Classes.{same_class-is}
+use Rattle.core_laws.proofs.Kept.{kept_at, kept-same}
 use Rattle.core_laws.proofs.Rows.{passing-has, handled-by}
 
 -- ---- settled
@@ -61,7 +62,7 @@ chosen-row s service same =
       pending_now = λ reason is. subst (IsChosen (holders s.claims) (offer_in s.held service) s.class service) is chosen;
     }
 
-front-by : (b : Bool) (s : State) (key : Key) (service : Service) → b ≡ same_record (wanted_record service.holding (chosen_at s service)) service.holding
+front-by : (b : Bool) (s : State) (key : Key) (service : Service) → b ≡ kept_at s service
     → same_key key key ≡ true
     → is_put_of (put_in (cond b (NoPut key (reason_in (chosen_at s service))) (Wants (record {
       key = key;
@@ -69,7 +70,7 @@ front-by : (b : Bool) (s : State) (key : Key) (service : Service) → b ≡ same
       holding = wanted_record service.holding (chosen_at s service);
     }) (reason_in (chosen_at s service))))) key ≡ false
     → MeetsRow s.class (offer_in s.held) (holders s.claims) service
-front-by true s key service b own out = chosen-row s service (sym b)
+front-by true s key service b own out = chosen-row s service (kept-same service.holding (has_other service s.claims) (chosen_at s service) (sym b))
 front-by false s key service b own out = absurd (true≢false (sym own ∙ out))
 
 front-found : (found : Option Service) (s : State) (key : Key) (service : Service) → found ≡ Some service → same_key key key ≡ true
@@ -78,7 +79,7 @@ front-found None s key service f own out = absurd (cc)
 front-found (Some other) s key service f own out =
     let is : other ≡ service = cc in
     subst (λ (x : Service). MeetsRow s.class (offer_in s.held) (holders s.claims) x) is
-    (front-by (same_record (wanted_record other.holding (chosen_at s other)) other.holding) s key other refl own out)
+    (front-by (kept_at s other) s key other refl own out)
 
 turned-by : (b : Bool) (s : State) (k : Key) (ks : List Key) (key : Key) (service : Service) → b ≡ same_key k key
     → (has_key (k ∷ ks) key ≡ false → MeetsRow s.class (offer_in s.held) (holders s.claims) service)

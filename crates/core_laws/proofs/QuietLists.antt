@@ -68,7 +68,7 @@ free-there-by false queue awaiting services key service b found q a out =
     _ _ (sym (has_key-append (passing (is_free_with queue awaiting true) services) (passing (is_free_with queue awaiting false) services) key) ∙ out) in
     true≢false (sym (passing-has (is_free_with queue awaiting false) services key service found (free-by false queue awaiting key service b q a)) ∙ both.1)
 
-free-there : (queue awaiting : List Key) (services : List (Key × Versioned Service)) (key : Key) (service : Service)
+pub free-there : (queue awaiting : List Key) (services : List (Key × Versioned Service)) (key : Key) (service : Service)
     → object_at key_cmp services key ≡ Some service
     → has_key queue key ≡ false → has_key awaiting key ≡ false → has_key (all_free queue awaiting services) key ≡ false → ⊥
 free-there queue awaiting services key service = free-there-by (is_assigned service.holding) queue awaiting services key service refl
@@ -81,7 +81,7 @@ kept-by true true test k key keys less x y t ih = absurd (true≢false (x ∙ ap
 kept-by true false test k key keys less x y t ih = ih
 kept-by false y test k key keys less x e t ih = ap (λ b. same_key k key || b) ih ∙ ap (λ b. b || has_key keys key) (sym e)
 
-kept-keys : (test : Key → Bool) (keys : List Key) (key : Key) → test key ≡ false → has_key (filter (λ k. not (test k)) keys) key ≡ has_key keys key
+pub kept-keys : (test : Key → Bool) (keys : List Key) (key : Key) → test key ≡ false → has_key (filter (λ k. not (test k)) keys) key ≡ has_key keys key
 kept-keys test [] key t = refl
 kept-keys test (k ∷ keys) key t = kept-by (test k) (same_key k key) test k key keys (filter (λ k. not (test k)) keys) refl refl t (kept-keys test keys key t)
 
@@ -91,13 +91,13 @@ listed-some : (b : Bool) (g : Versioned Service) (service : Service) → b ≡ e
 listed-some true g service b e = absurd (cc)
 listed-some false g service b e = (e, sym b)
 
-listed-from : (found : Option (Versioned Service)) (key : Key) (service : Service)
+pub listed-from : (found : Option (Versioned Service)) (key : Key) (service : Service)
     → option_map (λ (h : Versioned Service). h.object) (seen_after service_resource key (Watched (ListEnd groups.Service)) found) ≡ Some service
     → (option_map (λ (h : Versioned Service). h.object) found ≡ Some service) × (eqb (version_of service_resource key found) 0 ≡ false)
 listed-from None key service e = absurd (cc)
 listed-from (Some g) key service e = listed-some (eqb g.version 0) g service refl e
 
-ready-listed : (a b c : Bool) → (a && b && c) ≡ true → (a && c) ≡ true
+pub ready-listed : (a b c : Bool) → (a && b && c) ≡ true → (a && c) ≡ true
 ready-listed true true c e = e
 ready-listed true false c e = absurd (cc)
 ready-listed false b c e = absurd (cc)

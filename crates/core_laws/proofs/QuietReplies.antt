@@ -19,6 +19,7 @@ use Rattle.object_history.specs.LookBack.{written_over}
 use Rattle.kube_model.proofs.KeyLaws.{key_cmp-total, key_cmp-exact, same_key-is}
 use Rattle.object_history.proofs.Held.{amended_seen}
 use Rattle.sharing_terms.specs.declared.terms.Terms.{Terms}
+use Rattle.alloc_book.specs.declared.choice.Choice.TheVariants.{Foreign}
 use Rattle.alloc_book.specs.Asking.{asker_of}
 use Rattle.claim_index.specs.Claims.{AreAssigned, ClaimValue, holders, claims_of, claim_of, settled, doubted, loses}
 use Rattle.alloc_book.specs.Book.{HasLost}
@@ -42,14 +43,15 @@ pub record PutIsChosen (s : State) (put : Put) : Type 0 where
   pub found : service_of s.held put.key ≡ Some service
   pub keyed : service.key ≡ put.key
   pub holding_is : put.holding ≡ wanted_record service.holding (chosen_at s service)
+  pub own : chosen_at s service ≢ Foreign
 
 -- ---- others
-behind : (keys : List Key) (k key : Key) → has_key (keys ++ k ∷ []) key ≡ false → (has_key keys key ≡ false) × (same_key k key ≡ false)
+pub behind : (keys : List Key) (k key : Key) → has_key (keys ++ k ∷ []) key ≡ false → (has_key keys key ≡ false) × (same_key k key ≡ false)
 behind keys k key e =
     let parts = or_parts (has_key keys key) (has_key (k ∷ []) key) (sym (has_key-append keys (k ∷ []) key) ∙ e) in
     (parts.0, (or_parts (same_key k key) false parts.1).0)
 
-not-out : (s : State) (put : Put) (key : Key) → s.out ≡ Some put → same_key put.key key ≡ false → is_put_of s.out key ≡ false
+pub not-out : (s : State) (put : Put) (key : Key) → s.out ≡ Some put → same_key put.key key ≡ false → is_put_of s.out key ≡ false
 not-out s put key o apart = ap (λ (p : Option Put). is_put_of p key) o ∙ apart
 
 refused-quiet : (s : State) (put : Put) → s.out ≡ Some put → IsQuiet s → IsQuiet (refused s put)
@@ -108,12 +110,12 @@ apart-by false k key b e = refl
 pub apart : (k key : Key) → is_eq (key_cmp k key) ≡ false → same_key k key ≡ false
 apart k key e = apart-by (same_key k key) k key refl e
 
-over-other : (found : Option (Versioned Service)) (key : Key) → option_map (λ (h : Versioned Service). h.object)
+pub over-other : (found : Option (Versioned Service)) (key : Key) → option_map (λ (h : Versioned Service). h.object)
     (option_map (written_over service_resource key None) found) ≡ option_map (λ (h : Versioned Service). h.object) found
 over-other None key = refl
 over-other (Some h) key = refl
 
-over-own : (found : Option (Versioned Service)) (key : Key) (version : ℕ) (holding : Record) (service : Service)
+pub over-own : (found : Option (Versioned Service)) (key : Key) (version : ℕ) (holding : Record) (service : Service)
     → option_map (λ (h : Versioned Service). h.object) found ≡ Some service
     → option_map (λ (h : Versioned Service). h.object) (option_map (written_over service_resource key (Some (version, with_holding holding))) found)
     ≡ Some (with_holding holding service)
@@ -122,7 +124,7 @@ over-own (Some h) key version holding service e =
     let is : h.object ≡ service = cc in
     ap (λ (x : Service). Some (with_holding holding x)) is
 
-seen-stored : (es : List (Key × Versioned Service)) (k key : Key) (version : ℕ) (holding : Record) (b : Bool) → b ≡ is_eq (key_cmp k key)
+pub seen-stored : (es : List (Key × Versioned Service)) (k key : Key) (version : ℕ) (holding : Record) (b : Bool) → b ≡ is_eq (key_cmp k key)
     → object_at key_cmp (amended key_cmp es k version (with_holding holding)) key
     ≡ option_map (λ (h : Versioned Service). h.object)
     (option_map (written_over service_resource key (cond b (Some (version, with_holding holding)) None)) (held_at key_cmp es key))

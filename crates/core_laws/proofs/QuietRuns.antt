@@ -42,7 +42,7 @@ use Rattle.core_laws.proofs.QuietReplies.{PutIsChosen, heard-quiet}
 use Rattle.core_laws.proofs.QuietServices.{shown-quiet, dropped-quiet}
 
 -- ---- what is seen of a key after an event
-seen-services : (s : State) (observations : List Observation) → s.held ≡ cached observations → (h : Observation) (key : Key)
+pub seen-services : (s : State) (observations : List Observation) → s.held ≡ cached observations → (h : Observation) (key : Key)
     → held_at key_cmp (held_after service_resource h s.held.services) key ≡ seen_after service_resource key h (held_at key_cmp s.held.services key)
 seen-services s observations e h key =
     held_at-held_after service_resource key_cmp-total key_cmp-exact key h s.held.services
@@ -52,7 +52,7 @@ gone-by : (b : Bool) (rest : Option (Versioned Service)) → b ≡ true → opti
 gone-by true rest e = refl
 gone-by false rest e = absurd (cc)
 
-gone-service : (s : State) (observations : List Observation) → s.held ≡ cached observations → (gone key : Key) → is_eq (key_cmp gone key) ≡ true
+pub gone-service : (s : State) (observations : List Observation) → s.held ≡ cached observations → (gone key : Key) → is_eq (key_cmp gone key) ≡ true
     → service_of (without_service s gone).held key ≡ None
 gone-service s observations e gone key same =
     ap (option_map (λ (h : Versioned Service). h.object)) (seen-services s observations e (Watched (Deleted kinds.Service gone)) key)
@@ -71,7 +71,7 @@ took-quiet s observations e o quiet a = by_effect (λ event c. IsQuiet (core_by 
     (λ event. quiet)
 
 -- ---- an expired watch
-not-ready : (a b : Bool) → (a && false && b) ≡ true → ⊥
+pub not-ready : (a b : Bool) → (a && false && b) ≡ true → ⊥
 not-ready true b e = absurd (cc)
 not-ready false b e = absurd (cc)
 
@@ -109,6 +109,7 @@ turned-chosen class earlier is put e =
       found = wanted.found;
       keyed = service-key class earlier is put.key wanted.service wanted.found;
       holding_is = wanted.holding_is;
+      own = wanted.own;
     }
 
 pub none-some : (out : Option Put) (put : Put) → out ≡ None → out ≡ Some put → ⊥
@@ -116,7 +117,7 @@ none-some None put n e = absurd (cc)
 none-some (Some other) put n e = absurd (cc)
 
 -- a put is out after a turn alone
-out-chosen : (class : Option (List ℕ)) (run : List TranscriptEntry) → IsRun class run → (put : Put) → (core_after class run).out ≡ Some put
+pub out-chosen : (class : Option (List ℕ)) (run : List TranscriptEntry) → IsRun class run → (put : Put) → (core_after class run).out ≡ Some put
     → PutIsChosen (core_after class run) put
 out-chosen class [] is put e = absurd (cc)
 out-chosen class (Took event ∷ earlier) is put e =

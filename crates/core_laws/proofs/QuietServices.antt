@@ -62,12 +62,12 @@ own-by : (b : Bool) (queue more : List Key) (own : Key) → b ≡ has_key queue 
 own-by true queue more own b = ap (λ x. x || has_key more own) (sym b)
 own-by false queue more own b = ap (λ x. x || (same_key own own || has_key more own)) (sym b) ∙ ap (λ x. x || has_key more own) (same_key-itself own)
 
-own-there : (ready : Bool) (queue more : List Key) (own : Key) → ready ≡ true → has_key (queue ++ cond ready (own_key own queue ++ more) []) own ≡ true
+pub own-there : (ready : Bool) (queue more : List Key) (own : Key) → ready ≡ true → has_key (queue ++ cond ready (own_key own queue ++ more) []) own ≡ true
 own-there true queue more own r = has_key-append queue (own_key own queue ++ more) own ∙ own-by (has_key queue own) queue more own refl
 own-there false queue more own r = absurd (cc)
 
 -- behind the queue and its own key
-more-by : (ready : Bool) (queue own more : List Key) (key : Key) → ready ≡ true → has_key (queue ++ cond ready (own ++ more) []) key ≡ false
+pub more-by : (ready : Bool) (queue own more : List Key) (key : Key) → ready ≡ true → has_key (queue ++ cond ready (own ++ more) []) key ≡ false
     → (has_key queue key ≡ false) × (has_key more key ≡ false)
 more-by true queue own more key r e =
     let first = or_parts (has_key queue key) (has_key (own ++ more) key) (sym (has_key-append queue (own ++ more) key) ∙ e) in
@@ -75,7 +75,7 @@ more-by true queue own more key r e =
 more-by false queue own more key r e = absurd (cc)
 
 -- what is held of a newer service
-abbrev held_service : State → ℕ → Service → State
+abbrev pub held_service : State → ℕ → Service → State
 held_service s version service = record s {
   held = cached_after (Watched (shows version service)) s.held;
   claims = settled service.key service.holding (shown_terms service) s.claims;
@@ -83,15 +83,15 @@ held_service s version service = record s {
   queue = s.queue ++ own_and_waiting (is_ready s.held) (loses service.key service.holding (shown_terms service) s.claims) s service.key;
 }
 
-passed-over : (s : State) (version : ℕ) (service : Service) → leb version (version_at key_cmp s.held.services service.key) ≡ true
+pub passed-over : (s : State) (version : ℕ) (service : Service) → leb version (version_at key_cmp s.held.services service.key) ≡ true
     → s ≡ with_service s version service
 passed-over s version service old = rw old refl
 
-held-newer : (s : State) (version : ℕ) (service : Service) → leb version (version_at key_cmp s.held.services service.key) ≡ false
+pub held-newer : (s : State) (version : ℕ) (service : Service) → leb version (version_at key_cmp s.held.services service.key) ≡ false
     → held_service s version service ≡ with_service s version service
 held-newer s version service old = rw old refl
 
-tells-other : (s : State) (version : ℕ) (service : Service) (key : Key) → leb version (version_at key_cmp s.held.services service.key) ≡ false
+pub tells-other : (s : State) (version : ℕ) (service : Service) (key : Key) → leb version (version_at key_cmp s.held.services service.key) ≡ false
     → is_eq (key_cmp service.key key) ≡ false
     → changes_service s.held (shows version service) key ≡ false
 tells-other s version service key new e = rw new e

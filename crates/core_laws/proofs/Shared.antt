@@ -41,7 +41,7 @@ use Rattle.core_laws.specs.Puts.{IsRightPut, labels_shown}
 use Rattle.core_laws.specs.Shared.{claim_out, may_have, has_claim, age_of, ClaimsMayShare, CameShown, AreSharedOrShown, AllShowTerms, RunsAreShared}
 use Rattle.core_laws.specs.Shared.{MayShareWith, SharesRightly, PutsShareRightly}
 use Rattle.core_laws.specs.Shown.{HoldsOfShown}
-use Rattle.core_laws.proofs.Claimed.{services_are_claimed}
+use Rattle.core_laws.proofs.Claimed.{chosen-foreign, services_are_claimed}
 use Rattle.core_laws.proofs.Keyed.{own-keys, shown-holds, observed-all, terms-kept}
 use Rattle.core_laws.proofs.Puts.{puts_are_right}
 use Rattle.core_laws.proofs.Ages.{has-is, has-from, has-not, age-none, age-some, age-positive, was-older, was-new, suc-less}
@@ -63,12 +63,12 @@ not-empty : (r : Record) → is_assigned r ≡ true → r ≡ empty_record → �
 not-empty r has e = true≢false (sym has ∙ ap is_assigned e)
 
 -- what is written with an address was chosen, to be kept or anew
-for-by : (c : Choice) (held r : Record) → is_assigned r ≡ true → r ≢ held → r ≡ wanted_record held c → IsFor r c
-for-by Foreign held r has differs e = absurd (differs e)
-for-by Clear held r has differs e = absurd (not-empty r has e)
-for-by (Pending reason) held r has differs e = absurd (not-empty r has e)
-for-by (Keep holding) held r has differs e = inl (ap Keep (sym e))
-for-by (New holding) held r has differs e = inr (ap New (sym e))
+for-by : (c : Choice) (held r : Record) → is_assigned r ≡ true → c ≢ Foreign → r ≡ wanted_record held c → IsFor r c
+for-by Foreign held r has own e = absurd (own refl)
+for-by Clear held r has own e = absurd (not-empty r has e)
+for-by (Pending reason) held r has own e = absurd (not-empty r has e)
+for-by (Keep holding) held r has own e = inl (ap Keep (sym e))
+for-by (New holding) held r has own e = inr (ap New (sym e))
 
 abbrev Typed : Key → Service → Type 0
 Typed key service = AreTerms (terms_of service)
@@ -87,9 +87,15 @@ module _ (class : Option (List ℕ)) (put : Put) (pending : Option Reason) (earl
   abbrev has : Holders
   has = λ key. claims_shown key earlier
 
+  -- something is chosen for it, since it isn't of another class
+  chosen : right.decision.choice ≢ Foreign
+  chosen is =
+      let foreign = chosen-foreign has offer (asker_of service) right.decision.choice is class service right.decision.chosen in
+      foreign.1 (right.own foreign.0)
+
   granted : is_assigned put.holding ≡ true → IsGranted has offer (asker_of service) put.holding
   granted assigned =
-      let for : IsFor put.holding right.decision.choice = for-by right.decision.choice service.holding put.holding assigned right.differs right.holding_is in
+      let for : IsFor put.holding right.decision.choice = for-by right.decision.choice service.holding put.holding assigned chosen right.holding_is in
       chosen_for-granted has offer (asker_of service) class service put.holding right.decision.choice for right.decision.chosen
 
   of-shown : (P : Key → Service → Type 0) → ((key : Key) (s : Service) (holding : Record) → P key s → P key (with_holding holding s)) → HoldsOfShown P earlier

@@ -10,7 +10,6 @@ use Rattle.kube_model.specs.declared.object.Object.TheVariants as objects
 use Rattle.kube_model.specs.declared.reason.Reason.{Reason}
 use Rattle.kube_model.specs.declared.service.Service.{Service}
 use Rattle.kube_model.specs.Keys.{key_cmp}
-use Rattle.kube_model.specs.Records.{same_record}
 use Rattle.versioned_map.specs.Objects.{version_at}
 use Rattle.pool_config.specs.Compile.{compiled}
 use Rattle.pool_config.specs.ConfigValue.{ConfigValue}
@@ -32,6 +31,7 @@ use Rattle.core_rules.specs.Run.{core_after, observed, claims_shown}
 use Rattle.core_rules.proofs.Runs.{core_holds_what_was_observed}
 use Rattle.core_laws.specs.QuietShown.{offer_shown}
 use Rattle.core_laws.specs.Telling.{Tells, ReasonsAreRight, IsRightNote, NotesAreRight}
+use Rattle.core_laws.proofs.Kept.{kept_at}
 use Rattle.core_laws.proofs.Puts.{IsDecidedAs, decided}
 
 -- ---- reasons
@@ -66,8 +66,7 @@ told-at None s key k turn reason f e tells =
     let no : None ≡ Some reason = t.1 in
     absurd (cc)
 told-at (Some service) s key k turn reason f e tells =
-    told-by (same_record (wanted_record service.holding (chosen_at s service)) service.holding) s key service turn k (version_at key_cmp s.held.services k)
-    reason f e tells
+    told-by (kept_at s service) s key service turn k (version_at key_cmp s.held.services k) reason f e tells
 
 told-of : (s : State) (queue : List Key) (key : Key) (turn : Turn) (reason : Reason) → turn ≡ turn_of s queue → Tells turn key reason → IsPendingAt s key reason
 told-of s [] key turn reason e tells = absurd (subst (λ (x : Turn). Tells x key reason) e tells)

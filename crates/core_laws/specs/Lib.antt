@@ -1,3 +1,4 @@
+pub mod Certain
 pub mod Claimed
 pub mod Expired
 pub mod Puts

@@ -1,5 +1,5 @@
 -- Each put is right by what the look back shows.
-use Rattle.std.specs.Prelude.{◌≡◌, ◌≢◌, ℕ, true, List, [], ◌∷◌, Option}
+use Rattle.std.specs.Prelude.{◌≡◌, ◌≢◌, ◌⊎◌, ℕ, true, List, [], ◌∷◌, Option}
 use Rattle.std.specs.Option.{option_map_or}
 use Rattle.kube_model.specs.declared.event.ListGroup.TheVariants as groups
 use Rattle.kube_model.specs.declared.key.Key.{Key}
@@ -15,7 +15,7 @@ use Rattle.alloc_book.specs.declared.choice.Choice.{Choice}
 use Rattle.alloc_book.specs.Chosen.{IsChosen}
 use Rattle.core_rules.specs.declared.turn.Turn.{Turn}
 use Rattle.core_rules.specs.declared.turn.Turn.TheVariants.{Idle, NoPut, Wants}
-use Rattle.core_rules.specs.Core.{offer_at}
+use Rattle.core_rules.specs.Core.{offer_at, own_claims}
 use Rattle.core_rules.specs.Turn.{wanted_record, reason_in}
 use Rattle.core_rules.specs.Run.{TranscriptEntry, Turned, IsRun, observed, claims_shown}
 
@@ -36,19 +36,21 @@ pub record IsRightDecision (class : Option (List ℕ)) (key : Key) (pending : Op
       held.object choice
   pub reason_is : pending ≡ reason_in choice
 
--- The put has the version last shown and the record that is wanted, which is another than the one that is held. A service of type LoadBalancer
--- is of the class that is handled: one of another class is never written.
+-- The put has the version last shown and the record that is wanted. This is another than the one that is held, or the key has, or may have,
+-- another claim than that record's, which the put settles. A service of type LoadBalancer is of the class that is handled: one of another
+-- class is never written.
 pub record IsRightPut (class : Option (List ℕ)) (put : Put) (pending : Option Reason) (earlier : List TranscriptEntry) : Type 0 where
   pub decision : IsRightDecision class put.key pending earlier
   pub version_is : put.version ≡ decision.held.version
   pub holding_is : put.holding ≡ wanted_record decision.held.object.holding decision.choice
-  pub differs : put.holding ≢ decision.held.object.holding
+  pub due : (put.holding ≢ decision.held.object.holding) ⊎ (claims_shown put.key earlier ≢ own_claims decision.held.object)
   pub own : decision.held.object.balancer ≡ true → decision.held.object.class ≡ class
 
--- No put is due: the record that is wanted is the one that is held.
+-- No put is due: the record that is wanted is the one that is held, and the key has, and may have, no claim but that record's.
 pub record IsRightNoPut (class : Option (List ℕ)) (key : Key) (pending : Option Reason) (earlier : List TranscriptEntry) : Type 0 where
   pub decision : IsRightDecision class key pending earlier
   pub same : wanted_record decision.held.object.holding decision.choice ≡ decision.held.object.holding
+  pub alone : claims_shown key earlier ≡ own_claims decision.held.object
 
 -- each put of each run
 abbrev pub PutsAreRight : Type 0

@@ -1,4 +1,5 @@
 //! What holds of every run.
+ghost use Rattle.core_laws.specs.Certain.{NewerEventsSettle, RunsAreCertain};
 ghost use Rattle.core_laws.specs.Claimed.{ServicesAreClaimed};
 ghost use Rattle.core_laws.specs.Expired.{ExpiredIsBoth};
 ghost use Rattle.core_laws.specs.Puts.{PutsAreRight, NoPutsAreRight, TurnsAreReady};
@@ -63,6 +64,14 @@ pub fn chosen_is_served()
 /// this controller, as MetalLB leaves it, under those of the service as it is held now.
 pub fn services_are_claimed()
     ensures { ServicesAreClaimed }
+{}
+
+/// Whatever arrives, each settled service has the claim of its record and no other, but the one that is being written: so no reply that didn't
+/// come keeps an address from the others once nothing is queued.
+/// And so it is of one that an event shows newer than it is held, which then awaits nothing, whatever was put of it, lost or refused before.
+pub fn runs_are_certain()
+    ensures settled { RunsAreCertain }
+    ensures newer { NewerEventsSettle }
 {}
 
 /// At no moment have two services, or may they have, one address, unless they share it by their terms, or the one that came to it

@@ -18,7 +18,7 @@ use Rattle.alloc_book.specs.Asking.{Offer, offer_of}
 use Rattle.sharing_terms.specs.declared.terms.Terms.{Terms}
 use Rattle.sharing_terms.specs.declared.terms.Backend.TheVariants.{Cluster}
 use Rattle.sharing_terms.specs.Terms.{terms_of}
-use Rattle.claim_index.specs.Claims.{ClaimValue, terms_under}
+use Rattle.claim_index.specs.Claims.{ClaimValue, terms_under, claim_of, loses}
 use Rattle.kube_model.specs.Records.{empty_record, is_assigned, same_record}
 use Rattle.core_rules.specs.Keys.{is_free}
 
@@ -57,6 +57,14 @@ terms_in held key = option_map_or terms_of (service_of held key) no_terms
 -- A record as it is claimed for a service: under the terms of its mark, and where it is the mark of none under those of the service.
 abbrev pub shown_terms : Service → Terms
 shown_terms service = terms_under service.holding (terms_of service)
+
+-- the claim of the service's record, where that has an address
+abbrev pub own_claims : Service → List ClaimValue
+own_claims service = claim_of service.key service.holding (shown_terms service)
+
+-- the service has another claim than its record's: of another record, or under other terms
+abbrev pub has_other : Service → List ClaimValue → Bool
+has_other service claims = loses service.key service.holding (shown_terms service) claims
 
 -- ready, held, and neither queued nor awaiting
 abbrev pub is_settled : State → Key → Bool

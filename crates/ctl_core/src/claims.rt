@@ -20,7 +20,6 @@ fn adopting(alloc: Global, key: &Key, holding: &Record, adopted: Terms) -> Resul
     ensures { IfOk result (λ c. c ≡ record { key = key.now; holding = holding.now; terms = terms_under holding.now adopted }) }
 {
     let claim = Claim::adopting(alloc, key, holding, &adopted);
-    drop(adopted);
     claim
 }
 
@@ -54,7 +53,6 @@ pub(crate) fn reserved_claim(
 {
     let claim = claim_of(alloc, cache, put)?;
     let Ok(()) = book.reserve(&claim) else {
-        drop(claim);
         return Err(NoMemory);
     };
     Ok(claim)

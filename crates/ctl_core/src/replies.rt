@@ -34,7 +34,7 @@ impl CoreState {
         match self.replied(put, reply) {
             Ok(()) => Ok(()),
             Err(put) => {
-                drop(self.out.replace(put));
+                self.out = Some(put);
                 Err(NoMemory)
             }
         }
@@ -67,7 +67,6 @@ impl CoreState {
         };
         let is_lost = self.book.loses(&claim);
         let Ok(more) = self.waiting.others_where(self.alloc, is_lost, &put.key) else {
-            drop(claim);
             return Err(put);
         };
         let services = self.cache.services();
@@ -79,7 +78,6 @@ impl CoreState {
             services,
             &put,
         ) else {
-            drop(claim);
             return Err(put);
         };
         self.waiting.release_others(is_lost, &put.key);
@@ -100,7 +98,6 @@ impl CoreState {
             return Err(put);
         };
         self.waiting.remove(&put.key);
-        drop(put);
         Ok(())
     }
 
@@ -116,11 +113,9 @@ impl CoreState {
             return Err(put);
         };
         let Ok(()) = push_new(&mut self.queue, &put.key) else {
-            drop(claim);
             return Err(put);
         };
         self.waiting.remove(&put.key);
-        drop(put);
         self.book.doubt_prepared(claim);
         Ok(())
     }
@@ -132,7 +127,6 @@ fn store_put(cache: &mut ObjectCache, version: u64, put: Put)
 {
     let Put { key, holding, .. } = put;
     cache.store(&key, version, holding);
-    drop(key);
 }
 
 /// The keys are queued, and the put's key waits where the put takes its record away and it is handled; else it doesn't. After want of

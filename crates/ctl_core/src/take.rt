@@ -61,9 +61,7 @@ impl CoreState {
                 kind: Kind::Service,
                 key,
             } => {
-                let dropped = self.drop_service(&key);
-                drop(key);
-                dropped?;
+                self.drop_service(&key)?;
                 Ok(TakeNote::Quiet)
             }
             Event::ListEnd {
@@ -89,10 +87,7 @@ impl CoreState {
             }
             | Event::Members { .. }
             | Event::Frame { .. }
-            | Event::Ignored => {
-                drop(event);
-                Ok(TakeNote::Quiet)
-            }
+            | Event::Ignored => Ok(TakeNote::Quiet),
             _ => Ok(self.configure(event)?),
         }
     }
@@ -120,13 +115,11 @@ impl CoreState {
         ensures err { OnErr result (self.new ≡ self.old) }
     {
         if self.cache.passes_limit(version, &service.key) {
-            drop(service);
             return Err(TakeFault::Limit {
                 count: MOST_SERVICES + 1,
             });
         }
         if version <= self.cache.services().version_of(&service.key) {
-            drop(service);
             return Ok(TakeNote::Quiet);
         }
         self.hold_service(version, service)?;
@@ -142,10 +135,7 @@ impl CoreState {
     {
         match self.prepare(&service) {
             Ok(prepared) => self.hold_prepared(version, service, prepared),
-            Err(NoMemory) => {
-                drop(service);
-                Err(NoMemory)
-            }
+            Err(NoMemory) => { Err(NoMemory) }
         }
     }
 
@@ -164,7 +154,6 @@ impl CoreState {
             &self.queue,
             &self.waiting,
         ) else {
-            drop(claim);
             return Err(NoMemory);
         };
         Ok(Prepared {
@@ -192,13 +181,9 @@ impl CoreState {
             more,
         } = prepared;
         let Ok(()) = self.book.reserve(&claim) else {
-            drop(service);
-            drop(more);
-            drop(claim);
             return Err(NoMemory);
         };
         let Ok(()) = queue_and_show(&mut self.queue, &mut self.cache, more, version, service) else {
-            drop(claim);
             return Err(NoMemory);
         };
         stop_awaiting(&mut self.awaiting, claim.key());
@@ -276,7 +261,6 @@ impl CoreState {
         let was_ready = is_ready(&self.cache);
         let queued = self.queue.len();
         let Ok(woken) = self.may_be_woken(&event) else {
-            drop(event);
             return Err(NoMemory);
         };
         let applied = queue_and_apply(&mut self.queue, &mut self.cache, woken, event)?;
@@ -329,7 +313,6 @@ fn queue_and_show(
 {
     let queued = queue.len();
     if append_new(queue, more).is_err() {
-        drop(service);
         return Err(NoMemory);
     }
     match cache.show_service(version, service) {
@@ -357,7 +340,6 @@ fn queue_and_apply(
 {
     let queued = queue.len();
     if append_new(queue, more).is_err() {
-        drop(event);
         return Err(NoMemory);
     }
     match cache.apply(event) {
@@ -380,7 +362,6 @@ fn enter_accepted(alloc: Global, book: &mut Book, cache: &ObjectCache, applied: 
     }
     let no_config = Config::empty(alloc);
     book.enter(config_or(cache, &no_config));
-    drop(no_config);
 }
 
 /// Whether the core may be ready after an event of the configuration.

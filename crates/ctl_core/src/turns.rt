@@ -1,15 +1,16 @@
 //! Turns.
 ghost use Rattle.std.specs.Prelude.{◌≡◌, ◌||◌, [], IfOk, OnOk, OnErr, None};
 ghost use Rattle.kube_model.specs.declared.record.Record.{Record};
-ghost use Rattle.core_rules.specs.Core.{service_of, labels_of};
+ghost use Rattle.core_rules.specs.Core.{service_of, labels_of, has_other};
 ghost use Rattle.std.specs.BTreeSet.{contains};
 ghost use Rattle.std.specs.Option.{option_copied};
 ghost use Rattle.kube_model.specs.declared.key.Key.{Key as KeyValue};
 ghost use Rattle.kube_model.specs.Keys.{key_cmp};
 ghost use Rattle.ctl_core.specs.Reached.{IsReached};
 ghost use Rattle.ctl_core.specs.Waiting.{is_front_lacking};
-ghost use Rattle.core_rules.specs.Turn.{wanted_record, reason_in, turn_for, put_in, core_turn, after_turn, turn_at, chosen_at};
+ghost use Rattle.core_rules.specs.Turn.{wanted_record, reason_in, is_foreign, turn_for, put_in, core_turn, after_turn, turn_at, chosen_at};
 
+use crate::claims::shown_claim;
 use crate::state::{CoreState, config_or};
 use alloc_book::Choice;
 use core_keys::{Keys, Services, WaitingKeys, lacks_record};
@@ -19,7 +20,6 @@ use kube_model::{Key, Put, Reason, Record, Service};
 use mlb_base::{NoMemory, TryCopy};
 use pool_config::Config;
 use std::alloc::Global;
-use std::mem;
 
 impl CoreState {
     /// Makes the next turn: the front key is taken out of the queue and chosen for. A put that is wanted is out until it is
@@ -33,7 +33,6 @@ impl CoreState {
     {
         let turn = self.next_turn()?;
         let Ok(out) = put_in(&turn) else {
-            drop(turn);
             return Err(NoMemory);
         };
         let services = self.cache.services();
@@ -43,12 +42,10 @@ impl CoreState {
             services,
             &self.queue,
         ) else {
-            drop(turn);
-            drop(out);
             return Err(NoMemory);
         };
-        drop(self.queue.pop_first());
-        drop(mem::replace(&mut self.out, out));
+        self.queue.pop_first();
+        self.out = out;
         Ok(turn)
     }
 
@@ -74,9 +71,28 @@ impl CoreState {
             Some(service) => {
                 let choice = self.choose_for(service)?;
                 let version = self.cache.services().version_of(key);
-                turn_for(self.alloc, key, version, &service.holding, choice)
+                let has_other = self.has_other(service)?;
+                turn_for(
+                    self.alloc,
+                    key,
+                    version,
+                    &service.holding,
+                    has_other,
+                    choice,
+                )
             }
         }
+    }
+
+    /// Whether the service has another claim than its record's.
+    fn has_other(&self, service: &Service) -> Result<bool, NoMemory>
+        ensures { IfOk result (λ other. other ≡ has_other service.now self.now.claims) }
+    {
+        if !self.book.has_claims(&service.key) {
+            return Ok(false);
+        }
+        let claim = shown_claim(self.alloc, service)?;
+        Ok(self.book.loses(&claim))
     }
 
     /// What is chosen for a held service.
@@ -90,8 +106,6 @@ impl CoreState {
         let choice = self
             .book
             .choose(config, self.class.as_ref(), service, labels);
-        drop(no_labels);
-        drop(no_config);
         choice
     }
 
@@ -146,24 +160,32 @@ fn reason_in(choice: &Choice) -> Option<Reason>
     }
 }
 
-/// A put is wanted where the chosen record isn't the held one.
+/// Whether the service is of another class.
+fn is_foreign(choice: &Choice) -> bool
+    ensures { result ≡ is_foreign choice.now }
+{
+    matches!(choice, Choice::Foreign)
+}
+
+/// What a choice comes to, where this record is held, and the service has another claim or not. A service of another class is never
+/// written; another is where the chosen record isn't the held one, or it has another claim.
 fn turn_for(
     alloc: Global,
     key: &Key,
     version: u64,
     held: &Record,
+    has_other: bool,
     choice: Choice,
 ) -> Result<Turn, NoMemory>
-    ensures { IfOk result (λ turn. turn ≡ turn_for key.now version held.now choice) }
+    ensures { IfOk result (λ turn. turn ≡ turn_for key.now version held.now has_other choice) }
 {
     let pending = reason_in(&choice);
+    let is_foreign = is_foreign(&choice);
     let holding = wanted_record(alloc, held, choice)?;
     let Ok(key) = key.copy() else {
-        drop(holding);
         return Err(NoMemory);
     };
-    if holding.is_same(held) {
-        drop(holding);
+    if is_foreign || (holding.is_same(held) && !has_other) {
         return Ok(Turn::NoPut { key, pending });
     }
     let put = Put {

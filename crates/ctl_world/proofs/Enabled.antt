@@ -11,7 +11,7 @@ use Rattle.kube_model.specs.declared.key.Key.{Key}
 use Rattle.kube_model.specs.declared.record.Record.{Record}
 use Rattle.kube_model.specs.declared.service.Service.{Service}
 use Rattle.kube_model.specs.Keys.{key_cmp}
-use Rattle.kube_model.specs.Records.{is_assigned, same_record}
+use Rattle.kube_model.specs.Records.{is_assigned}
 use Rattle.versioned_map.specs.Objects.{version_at}
 use Rattle.alloc_book.specs.declared.choice.Choice.{Choice}
 use Rattle.status_store.specs.declared.change.Edit.{Edit}
@@ -19,8 +19,8 @@ use Rattle.status_store.specs.declared.change.Edit.TheVariants.{Set, Reset, Dele
 use Rattle.status_store.specs.Changes.{IsWellFormed, DeletesNothing, record_of}
 use Rattle.status_store.proofs.EditLaws.{edit-absent}
 use Rattle.core_rules.specs.declared.turn.Turn.TheVariants.{Idle, NoPut, Wants}
-use Rattle.core_rules.specs.Core.{State, service_of}
-use Rattle.core_rules.specs.Turn.{wanted_record, reason_in, chosen_at, turn_at, turn_of, core_turn}
+use Rattle.core_rules.specs.Core.{State, service_of, has_other}
+use Rattle.core_rules.specs.Turn.{wanted_record, reason_in, is_kept, chosen_at, turn_at, turn_of, core_turn}
 use Rattle.world_rules.specs.declared.step.Step.{Step}
 use Rattle.world_rules.specs.declared.step.Step.TheVariants.{Edit as Edits, Take, Turn as Turns, Crash, Restart, Expire}
 use Rattle.world_rules.specs.World.{WorldValue, IsEnabled, IsLimited, HasLane, ResetsBare, lane_of, most_versions}
@@ -49,7 +49,7 @@ not-idle_by false key version held choice = λ e. absurd (cc)
 
 not-idle_at : (s : State) (key : Key) (found : Option Service) → turn_at s key found ≢ Idle
 not-idle_at s key None = λ e. absurd (cc)
-not-idle_at s key (Some service) = not-idle_by (same_record (wanted_record service.holding (chosen_at s service)) service.holding) key
+not-idle_at s key (Some service) = not-idle_by (is_kept service.holding (has_other service s.claims) (chosen_at s service)) key
     (version_at key_cmp s.held.services key) service.holding (chosen_at s service)
 
 not-idle : (s : State) (queue : List Key) → is_nil queue ≡ false → turn_of s queue ≢ Idle

@@ -82,7 +82,7 @@ module _ (old new : WorldValue) (good : IsGood old) (own : IsOwn old) where
       (λ same. subst (λ (w : WorldValue). IsRecorded w.store key r) same is)
       (λ made.
       let move = steps_are_moves old made.0 made.2 own in
-      unmarked_stay old (world_step made.0 old) move.0 move.1 good key r (subst (λ (w : WorldValue). IsRecorded w.store key r) made.3 is) unmarked has)
+      unmarked_stay old (world_step made.0 old) move.0 move.1 good move.2 key r (subst (λ (w : WorldValue). IsRecorded w.store key r) made.3 is) unmarked has)
       either
 
 -- ---- which refusal comes when

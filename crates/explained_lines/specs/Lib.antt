@@ -1,2 +1,4 @@
 pub mod Explained
 pub mod Lines
+pub mod Unused
+pub mod Unread

@@ -1,6 +1,7 @@
 -- The lines that say what lines are read as: compact JSON, the members in the byte order of their names.
-use Rattle.std.specs.Prelude.{ℕ, List, [], ◌∷◌, Option, Some, None, codes}
-use Rattle.serde_json.specs.Data.{Data, string, number, unsigned, object, Members, member, no_members}
+use Rattle.std.specs.Prelude.{ℕ, List, [], ◌∷◌, Option, Some, None, codes, map}
+use Rattle.serde_json.specs.Data.{Data, null, boolean, string, number, unsigned, array, object, Members, member, no_members, put as with_member}
+use Rattle.serde_json.specs.View.{items_of}
 use Rattle.serde_json.specs.Written.{compact_text}
 use Rattle.kube_lines.specs.OutputLines.{with_texts, with_numbers}
 use Rattle.kube_model.specs.declared.event.Event.{Event as Said}
@@ -18,7 +19,6 @@ use Rattle.kube_model.specs.Kinds.{kind_of}
 use Rattle.kube_model.specs.LineWords.{kind_text}
 use Rattle.admission_reviews.specs.declared.review.Change.{Change}
 use Rattle.admission_reviews.specs.declared.review.Change.TheVariants.{Set, Remove, Unread, Nothing}
-use Rattle.admission_reviews.specs.declared.review.Review.{Review as Asked}
 use Rattle.explained_lines.specs.declared.explained.Explained.{Explained}
 use Rattle.explained_lines.specs.declared.explained.Explained.TheVariants.{Review, Event, Refused}
 
@@ -36,12 +36,19 @@ with_line n texts = with_numbers ((codes "line", n) ∷ []) (with_texts texts no
 
 -- ---- an event
 
+-- the paths of what no program reads of an object, where there are any
+abbrev pub unused_member : List (List ℕ) → Members
+unused_member [] = no_members
+unused_member (path ∷ paths) = member (codes "unused") (array (items_of (map string (path ∷ paths)))) no_members
+
 -- an object is there or gone; only services and endpoint slices have a namespace that matters
-abbrev pub object_data : ℕ → Kind → Option (List ℕ) → List ℕ → List ℕ → Data
-object_data n kind (Some namespace) name type = object (text_member (codes "kind") (kind_text kind) (line_member n (text_member (codes "name") name
-    (text_member (codes "namespace") namespace (text_member (codes "op") (codes "event") (text_member (codes "type") type no_members))))))
-object_data n kind None name type = object (text_member (codes "kind") (kind_text kind) (line_member n (text_member (codes "name") name
-    (text_member (codes "op") (codes "event") (text_member (codes "type") type no_members)))))
+abbrev pub object_data : ℕ → Kind → Option (List ℕ) → List ℕ → List ℕ → List (List ℕ) → Data
+object_data n kind (Some namespace) name type unused = object (text_member (codes "kind") (kind_text kind)
+    (line_member n (text_member (codes "name") name (text_member (codes "namespace") namespace (text_member (codes "op") (codes "event")
+    (text_member (codes "type") type (unused_member unused)))))))
+object_data n kind None name type unused = object (text_member (codes "kind") (kind_text kind)
+    (line_member n (text_member (codes "name") name (text_member (codes "op") (codes "event")
+    (text_member (codes "type") type (unused_member unused))))))
 
 -- the list of objects of a kind has ended, and with it the lists of its group
 abbrev pub list_data : ℕ → Kind → Data
@@ -96,14 +103,19 @@ ending_kind groups.Config = kinds.Pool
 ending_kind groups.Service = kinds.Service
 ending_kind groups.Endpoint = kinds.Slice
 
-abbrev pub event_data : ℕ → Said → Data
-event_data n (Changed version shown) = object_data n (kind_of shown) (namespace_of shown) (name_of shown) (codes "set")
-event_data n (Deleted kind key) = object_data n kind (namespace_in kind key) key.name (codes "deleted")
-event_data n (ListEnd group) = list_data n (ending_kind group)
-event_data n Expired = plain_data n (codes "expired")
-event_data n (Speakers names) = plain_data n (codes "members")
-event_data n (Frame interface bytes) = plain_data n (codes "frame")
-event_data n Ignored = ignored_data n
+-- an object is there, of which no program reads what stands at these paths
+abbrev pub set_data : ℕ → Object → List (List ℕ) → Data
+set_data n shown unused = object_data n (kind_of shown) (namespace_of shown) (name_of shown) (codes "set") unused
+
+-- an event, with the paths of what no program reads of an object that is there
+abbrev pub event_data : ℕ → Said → List (List ℕ) → Data
+event_data n (Changed version shown) unused = set_data n shown unused
+event_data n (Deleted kind key) unused = object_data n kind (namespace_in kind key) key.name (codes "deleted") []
+event_data n (ListEnd group) unused = list_data n (ending_kind group)
+event_data n Expired unused = plain_data n (codes "expired")
+event_data n (Speakers names) unused = plain_data n (codes "members")
+event_data n (Frame interface bytes) unused = plain_data n (codes "frame")
+event_data n Ignored unused = ignored_data n
 
 -- ---- a refusal
 
@@ -140,9 +152,25 @@ review_data n uid Nothing = asked_data n uid
 
 abbrev pub explained_data : ℕ → Explained → Data
 explained_data n (Review review) = review_data n review.uid review.change
-explained_data n (Event event) = event_data n event
+explained_data n (Event event unused) = event_data n event unused
 explained_data n (Refused fault) = refused_data n fault
 
 -- what is said of the line of this number
 unfoldable pub explained_text : ℕ → Explained → List ℕ
 explained_text n explained = compact_text (explained_data n explained)
+
+-- ---- the same as members put together
+
+-- the paths come to the members, where there are any
+abbrev pub put_unused : List (List ℕ) → Members → Members
+put_unused [] members = members
+put_unused (path ∷ paths) members = with_member (codes "unused") (array (items_of (map string (path ∷ paths)))) members
+
+-- and to those of an object
+abbrev pub with_unused : List (List ℕ) → Data → Data
+with_unused unused (object members) = object (put_unused unused members)
+with_unused unused null = null
+with_unused unused (boolean b) = boolean b
+with_unused unused (number n) = number n
+with_unused unused (string s) = string s
+with_unused unused (array items) = array items

@@ -2,10 +2,12 @@
 ghost use Rattle.std.specs.Prelude.{◌≡◌, IfOk, Err};
 ghost use Rattle.kube_events.specs.Event.{event_of_line};
 ghost use Rattle.admission_reviews.specs.Reviews.{review_of_line};
-ghost use Rattle.explained_lines.specs.Explained.{event_found, event_or, explained_of};
+ghost use Rattle.explained_lines.specs.Explained.{told_event, event_found, event_or, explained_of};
 
+use crate::unused::unused_of;
 use admission_reviews::{Review, read_review};
 use kube_events::read_event;
+use kube_labels::TextList;
 use kube_model::{Event, EventFault};
 use mlb_base::NoMemory;
 use std::alloc::Global;
@@ -14,17 +16,27 @@ use std::alloc::Global;
 #[derive(Drop)]
 pub enum Explained {
     Review { review: Review },
-    Event { event: Event },
+    /// `unused` are the paths of what no program reads of an object that is there: those members of its spec that MetalLB's API
+    /// reference has for its kind, in byte order.
+    Event { event: Event, unused: TextList },
     /// It is neither, and this is the first thing in it that isn't as stated.
     Refused { fault: EventFault },
 }
 
+/// This event, which is that of the line.
+fn told_event(alloc: Global, event: Event, line: &[u8]) -> Result<Explained, NoMemory>
+    ensures { IfOk result (λ e. e ≡ told_event line.now event) }
+{
+    let unused = unused_of(alloc, &event, line)?;
+    Ok(Explained::Event { event, unused })
+}
+
 /// The event of the line, which is no AdmissionReview.
 fn event_found(alloc: Global, line: &[u8]) -> Result<Explained, NoMemory>
-    ensures { IfOk result (λ e. e ≡ event_found (event_of_line line.now)) }
+    ensures { IfOk result (λ e. e ≡ event_found line.now (event_of_line line.now)) }
 {
     match read_event(alloc, line) {
-        Ok(event) => Ok(Explained::Event { event }),
+        Ok(event) => told_event(alloc, event, line),
         Err(EventFault::NoMemory) => Err(NoMemory),
         Err(EventFault::NotJson) => Ok(Explained::Refused {
             fault: EventFault::NotJson,
@@ -40,12 +52,12 @@ fn event_found(alloc: Global, line: &[u8]) -> Result<Explained, NoMemory>
 
 /// The event of the line, or this fault of its review.
 fn event_or(alloc: Global, fault: EventFault, line: &[u8]) -> Result<Explained, NoMemory>
-    ensures { IfOk result (λ e. e ≡ event_or fault (event_of_line line.now)) }
+    ensures { IfOk result (λ e. e ≡ event_or line.now fault (event_of_line line.now)) }
 {
     match read_event(alloc, line) {
         Ok(event) => {
             drop(fault);
-            Ok(Explained::Event { event })
+            told_event(alloc, event, line)
         }
         Err(EventFault::NoMemory) => {
             drop(fault);

@@ -2,7 +2,10 @@
 #![tactic(auto)]
 
 mod explained;
+mod laws;
 mod line;
+mod unused;
 
 pub use explained::{Explained, explain};
+pub use laws::unused_members_are_unread;
 pub use line::explained_line;

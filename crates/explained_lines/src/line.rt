@@ -1,11 +1,12 @@
 //! The lines that say what lines are read as.
-ghost use Rattle.std.specs.Prelude.{◌≡◌, map, IfOk};
+ghost use Rattle.std.specs.Prelude.{◌≡◌, [], map, IfOk, OnOk};
 ghost use Rattle.std.specs.Option.{option_map};
-ghost use Rattle.serde_json.specs.Data.{object};
-ghost use Rattle.serde_json.specs.View.{view};
+ghost use Rattle.serde_json.specs.Data.{array, object, string};
+ghost use Rattle.serde_json.specs.View.{view, items_of, members_view};
 ghost use Rattle.kube_lines.specs.OutputLines.{pair_text};
 ghost use Rattle.explained_lines.specs.Lines.{with_line};
-ghost use Rattle.explained_lines.specs.Lines.{object_data, list_data, plain_data, ignored_data, name_of, namespace_of, namespace_in, ending_kind, event_data};
+ghost use Rattle.explained_lines.specs.Lines.{object_data, set_data, put_unused, with_unused};
+ghost use Rattle.explained_lines.specs.Lines.{list_data, plain_data, ignored_data, name_of, namespace_of, namespace_in, ending_kind, event_data};
 ghost use Rattle.explained_lines.specs.Lines.{path_data, reason_data, refused_data, asked_data, unread_data, review_data, explained_data, explained_text};
 
 use crate::explained::Explained;
@@ -14,7 +15,7 @@ use kube_labels::Text;
 use kube_lines::object_value;
 use kube_model::{Event, EventFault, Key, Kind, ListGroup, Object};
 use mlb_base::NoMemory;
-use serde_json::Value;
+use serde_json::{Map, Value, put as put_member};
 use std::alloc::Global;
 
 /// An object with the number of the line and these texts.
@@ -24,8 +25,50 @@ fn line_value(alloc: Global, number: u64, texts: &[(&str, &str)]) -> Result<Valu
     object_value(alloc, texts, &[("line", number)])
 }
 
+fn texts_value(alloc: Global, texts: &[Text]) -> Result<Value, NoMemory>
+    ensures { IfOk result (λ v. view v ≡ array (items_of (map string texts.now))) }
+{
+    let mut strings = Vec::new(alloc);
+    for text in texts {
+        let string = Value::try_from_str(alloc, text.as_str())?;
+        strings.push(string)?;
+    }
+    Ok(Value::Array(strings))
+}
+
+/// The paths of what no program reads come to the members, where there are any.
+fn put_unused(
+    members: &mut Map<String, Value>,
+    alloc: Global,
+    unused: &[Text],
+) -> Result<(), NoMemory>
+    ensures { OnOk result (members_view members.new.entries
+        ≡ put_unused unused.now (members_view members.old.entries)) }
+{
+    if !unused.is_empty() {
+        put_member(members, alloc, "unused", texts_value(alloc, unused)?)?;
+    }
+    Ok(())
+}
+
+/// The object with the paths of what no program reads.
+fn with_unused(alloc: Global, value: Value, unused: &[Text]) -> Result<Value, NoMemory>
+    ensures { IfOk result (λ v. view v ≡ with_unused unused.now (view value)) }
+{
+    match value {
+        Value::Object(mut members) => match put_unused(&mut members, alloc, unused) {
+            Ok(()) => Ok(Value::Object(members)),
+            Err(NoMemory) => {
+                drop(members);
+                Err(NoMemory)
+            }
+        },
+        value => Ok(value),
+    }
+}
+
 /// An object is there or gone, as `what` says.
-fn named_value<'a>(
+fn shown_value<'a>(
     alloc: Global,
     number: u64,
     kind: Kind,
@@ -33,7 +76,8 @@ fn named_value<'a>(
     name: &'a Text,
     what: &'a str,
 ) -> Result<Value, NoMemory>
-    ensures { IfOk result (λ v. view v ≡ object_data number kind (option_map (λ t. t.now) namespace.entry) name.now what.now) }
+    ensures { IfOk result (λ v. view v
+        ≡ object_data number kind (option_map (λ t. t.now) namespace.entry) name.now what.now []) }
 {
     match namespace {
         Some(namespace) => line_value(
@@ -58,6 +102,26 @@ fn named_value<'a>(
             ],
         ),
     }
+}
+
+/// An object is there, of which no program reads what stands at these paths.
+fn set_value(
+    alloc: Global,
+    number: u64,
+    object: &Object,
+    unused: &[Text],
+) -> Result<Value, NoMemory>
+    ensures { IfOk result (λ v. view v ≡ set_data number object.now unused.now) }
+{
+    let value = shown_value(
+        alloc,
+        number,
+        object.kind(),
+        namespace_of(object),
+        name_of(object),
+        "set",
+    )?;
+    with_unused(alloc, value, unused)
 }
 
 /// The list of objects of the kind has ended.
@@ -146,20 +210,18 @@ fn ending_kind(group: ListGroup) -> Kind
     }
 }
 
-fn event_value(alloc: Global, number: u64, event: &Event) -> Result<Value, NoMemory>
-    ensures { IfOk result (λ v. view v ≡ event_data number event.now) }
+fn event_value(
+    alloc: Global,
+    number: u64,
+    event: &Event,
+    unused: &[Text],
+) -> Result<Value, NoMemory>
+    ensures { IfOk result (λ v. view v ≡ event_data number event.now unused.now) }
 {
     match event {
-        Event::Changed { object, .. } => named_value(
-            alloc,
-            number,
-            object.kind(),
-            namespace_of(object),
-            name_of(object),
-            "set",
-        ),
+        Event::Changed { object, .. } => set_value(alloc, number, object, unused),
         Event::Deleted { kind, key } => {
-            named_value(
+            shown_value(
                 alloc,
                 number,
                 *kind,
@@ -243,7 +305,9 @@ fn explained_value(alloc: Global, number: u64, explained: &Explained) -> Result<
 {
     match explained {
         Explained::Review { review } => review_value(alloc, number, review),
-        Explained::Event { event } => event_value(alloc, number, event),
+        Explained::Event { event, unused } => {
+            event_value(alloc, number, event, unused.as_slice())
+        }
         Explained::Refused { fault } => refused_value(alloc, number, fault),
     }
 }

@@ -25,7 +25,7 @@ module _ (v : ViewValue) (address : AddressValue) (node : List ℕ) where
       Decides-and (chooses adv.pools adv.pool_selectors pool.name pool.labels) (selects adv.node_selectors (node_labels v node))
       (chooses-Decides adv.pools adv.pool_selectors pool.name pool.labels) (selects-Decides adv.node_selectors (node_labels v node))
 
-  advertised-means : is_advertised v node address ≡ true → IsAdvertised v address node
+  pub advertised-means : is_advertised v node address ≡ true → IsAdvertised v address node
   advertised-means e =
       let found = passing (advertises v node) address v.held.config e in
       let both = (advertises-Decides found.pool found.advertisement).0 found.passes in (
@@ -41,7 +41,7 @@ module _ (v : ViewValue) (address : AddressValue) (node : List ℕ) where
         },
       )
 
-  means-advertised : IsAdvertised v address node → is_advertised v node address ≡ true
+  pub means-advertised : IsAdvertised v address node → is_advertised v node address ≡ true
   means-advertised (adv, by) =
       passes-where (advertises v node) address v.held.config by.config by.pool adv by.in_force by.pool_is by.there
       ((advertises-Decides by.pool adv).1 (by.chosen, by.selected))
@@ -49,7 +49,7 @@ module _ (v : ViewValue) (address : AddressValue) (node : List ℕ) where
   abbrev recorded_by : Service → Bool
   recorded_by service = has_address service.holding.addresses address && can_announce v service node
 
-  recorded-means : announced_from v address node ≡ true → IsRecorded v address node
+  pub recorded-means : announced_from v address node ≡ true → IsRecorded v address node
   recorded-means e =
       let found = any-found recorded_by (objects_of v.held.services) e in
       let service : Service = found.0 in
@@ -61,7 +61,7 @@ module _ (v : ViewValue) (address : AddressValue) (node : List ℕ) where
         announces = (can_announce-Decides v service node).0 both.1;
       }
 
-  means-recorded : IsRecorded v address node → announced_from v address node ≡ true
+  pub means-recorded : IsRecorded v address node → announced_from v address node ≡ true
   means-recorded r =
       any-contains recorded_by (objects_of v.held.services) r.service r.held
       (and_from (has_address r.service.holding.addresses address) (can_announce v r.service node)

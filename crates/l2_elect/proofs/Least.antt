@@ -27,7 +27,7 @@ use Rattle.l2_elect.proofs.Eligibility.{eligible-member, member-eligible}
 rank_total : (text : List ℕ) → IsTotalOrder (rank_cmp text)
 rank_total text = then_total (on_total (digest_of text) nat_list_cmp_total) nat_list_cmp_total
 
-before_order : (text : List ℕ) → IsStrictWeakOrder (comes_before text)
+pub before_order : (text : List ℕ) → IsStrictWeakOrder (comes_before text)
 before_order text = ranks_by (rank_total text) (λ n. n)
 
 best_from-is : (text best : List ℕ) (nodes : List (List ℕ)) → best_from text (Some best) nodes ≡ Some (best_of (comes_before text) best nodes)
@@ -35,7 +35,7 @@ best_from-is text best [] = refl
 best_from-is text best (n ∷ nodes) = best_from-is text (cond (comes_before text n best) n best) nodes
 
 -- of any list of nodes
-least_of : (text : List ℕ) (nodes : List (List ℕ)) (n : List ℕ) → best_from text None nodes ≡ Some n
+pub least_of : (text : List ℕ) (nodes : List (List ℕ)) (n : List ℕ) → best_from text None nodes ≡ Some n
     → Contains nodes n × All (λ m. comes_before text m n ≡ false) nodes
 least_of text [] n is = cc
 least_of text (a ∷ nodes) n is =
@@ -46,7 +46,7 @@ least_of text (a ∷ nodes) n is =
     (get_or_default (a ∷ nodes) first.0 d a first.1.0 ∙ at) (first.1.1 k d below) in
     ((first.0, first.1.0, get_or_default (a ∷ nodes) first.0 n a first.1.0 ∙ at), least)
 
-none_of : (text : List ℕ) (nodes : List (List ℕ)) → best_from text None nodes ≡ None → nodes ≡ []
+pub none_of : (text : List ℕ) (nodes : List (List ℕ)) → best_from text None nodes ≡ None → nodes ≡ []
 none_of text [] is = refl
 none_of text (a ∷ nodes) is = let e = sym (best_from-is text a nodes) ∙ is in cc
 
@@ -68,7 +68,7 @@ module _ (v : ViewValue) (address : AddressValue) where
       let order = rank_total text in
       tied m n (both_equal _ _ (level (rank_cmp text m n) (rank_cmp text n m) (order.antisymm m n) (hn.least m hm.eligible) (hm.least n hn.eligible))).1
 
-  elected-least : (node : List ℕ) → announcer_of v address ≡ Some node → IsAnnouncer v address node
+  pub elected-least : (node : List ℕ) → announcer_of v address ≡ Some node → IsAnnouncer v address node
   elected-least node is =
       let nodes = filter (is_eligible v address) v.members in
       let p = least_of (canonical_text address) nodes node is in
@@ -77,12 +77,12 @@ module _ (v : ViewValue) (address : AddressValue) where
         least = λ m e. All-contains (λ (x : List ℕ). comes_before (canonical_text address) x node ≡ false) nodes m p.1 (eligible-member v address m e);
       }
 
-  none-eligible : announcer_of v address ≡ None → (node : List ℕ) → ¬ IsEligible v address node
+  pub none-eligible : announcer_of v address ≡ None → (node : List ℕ) → ¬ IsEligible v address node
   none-eligible is node e =
       let nodes = filter (is_eligible v address) v.members in
       contains-none node (subst (λ (ns : List (List ℕ)). Contains ns node) (none_of (canonical_text address) nodes is) (eligible-member v address node e))
 
-  least_where : (o : Option (List ℕ)) (node : List ℕ) → announcer_of v address ≡ o → IsAnnouncer v address node → announcer_of v address ≡ Some node
+  pub least_where : (o : Option (List ℕ)) (node : List ℕ) → announcer_of v address ≡ o → IsAnnouncer v address node → announcer_of v address ≡ Some node
   least_where None node e a = absurd (none-eligible e node a.eligible)
   least_where (Some m) node e a = e ∙ ap (λ (x : List ℕ). Some x) (announcer-one m node (elected-least m e) a)
 

@@ -4,5 +4,7 @@ pub mod Eligibility
 pub mod Keeping
 pub mod Least
 pub mod ListenLaws
+pub mod Moves
 pub mod Passing
+pub mod Since
 pub mod Unrecorded

@@ -1,6 +1,6 @@
--- An address that is announced from no node has no announcer, so one that no service records has none; and where all stays that decides who may announce one,
--- its announcer does.
-use Rattle.std.proofs.Common.{◌≡◌, ◌↔◌, ℕ, Bool, false, ◌&&◌, ◌||◌, List, [], ◌∷◌, filter, None, Contains, refl, sym, ap, subst}
+-- An address that is announced from no node has no announcer, so one that no service records has none; and where all stays that decides who may announce one
+-- but at some nodes, the others are eligible as before.
+use Rattle.std.proofs.Common.{◌≡◌, ◌↔◌, ℕ, Bool, false, ◌&&◌, ◌||◌, List, [], ◌∷◌, filter, None, Contains, refl, sym, ap, ◌∙◌}
 use Rattle.std.proofs.lemmas.Bool.{or_parts, and_right}
 use Rattle.std.specs.List.{list_any}
 use Rattle.ip_ranges.specs.AddressText.{canonical_text}
@@ -13,7 +13,7 @@ use Rattle.speaker_view.specs.Held.{objects_of}
 use Rattle.speaker_view.specs.ViewValue.{ViewValue}
 use Rattle.l2_elect.specs.Eligible.{EligibleNodesStay, IsEligible, is_advertised, is_eligible, passes_in}
 use Rattle.l2_elect.specs.Election.{announcer_of, best_from}
-use Rattle.l2_elect.proofs.Eligibility.{eligible-member, member-eligible}
+use Rattle.l2_elect.proofs.Eligibility.{advertised-means, means-advertised, recorded-means, means-recorded}
 
 -- where a test fails everywhere, so it does with another
 neither : {X : Type 0} (p q : X → Bool) (xs : List X) → list_any p xs ≡ false → list_any (λ x. p x && q x) xs ≡ false
@@ -37,27 +37,26 @@ pub unrecorded-none : (v : ViewValue) (a : AddressValue) → is_recorded_in v a 
 unrecorded-none v a e =
     unannounced-none v a (λ node. neither (λ (s : Service). has_address s.holding.addresses a) (λ s. can_announce v s node) (objects_of v.held.services) e)
 
--- ---- what stays
-module _ (v w : ViewValue) (a : AddressValue) (stays : StaysAt v w a) where
-  advertised-stays : (node : List ℕ) → is_advertised w node a ≡ is_advertised v node a
-  advertised-stays node =
-      let labels = stays.labels node in
+-- ---- what stays at another node
+module _ (v w : ViewValue) (nodes : List (List ℕ)) (a : AddressValue) (stays : StaysAt v w nodes a) (node : List ℕ) (other : ¬ (Contains nodes node)) where
+  advertised-stays : is_advertised w node a ≡ is_advertised v node a
+  advertised-stays =
+      let labels = stays.labels node other in
       λ i. passes_in (λ pool adv. chooses adv.pools adv.pool_selectors pool.name pool.labels && selects adv.node_selectors (labels i)) a (stays.config i)
 
-  eligible-same : (node : List ℕ) → is_eligible w a node ≡ is_eligible v a node
-  eligible-same node = λ i. advertised-stays node i && stays.announced node i
+  pub still-eligible : IsEligible v a node → IsEligible w a node
+  still-eligible e = record {
+    member = (stays.members node other).1 e.member;
+    advertised = advertised-means w a node (advertised-stays ∙ means-advertised v a node e.advertised);
+    recorded = recorded-means w a node (stays.announced node other ∙ means-recorded v a node e.recorded);
+  }
 
-  eligible_members : filter (is_eligible w a) w.members ≡ filter (is_eligible v a) v.members
-  eligible_members = λ i. filter (λ node. eligible-same node i) (stays.members i)
-
-  pub announcer-stays : announcer_of w a ≡ announcer_of v a
-  announcer-stays = ap (best_from (canonical_text a) None) eligible_members
-
-  eligible-stays : (node : List ℕ) → IsEligible w a node ↔ IsEligible v a node
-  eligible-stays node = (
-    λ e. member-eligible v a node (subst (λ (ns : List (List ℕ)). Contains ns node) eligible_members (eligible-member w a node e)),
-    λ e. member-eligible w a node (subst (λ (ns : List (List ℕ)). Contains ns node) (sym eligible_members) (eligible-member v a node e)),
-  )
+  pub was-eligible : IsEligible w a node → IsEligible v a node
+  was-eligible e = record {
+    member = (stays.members node other).0 e.member;
+    advertised = advertised-means v a node (sym advertised-stays ∙ means-advertised w a node e.advertised);
+    recorded = recorded-means v a node (sym (stays.announced node other) ∙ means-recorded w a node e.recorded);
+  }
 
 pub eligible_nodes_stay : EligibleNodesStay
-eligible_nodes_stay v w a stays node = eligible-stays v w a stays node
+eligible_nodes_stay v w nodes a stays node other = (λ e. was-eligible v w nodes a stays node other e, λ e. still-eligible v w nodes a stays node other e)

@@ -67,6 +67,7 @@ abbrev pub is_eligible_by : ViewValue → AddressValue → CompiledPool → List
 is_eligible_by v address pool l2 node = list_any (advertises v node pool) l2 && announced_from v address node
 
 -- ---- laws
--- where all stays that decides who may announce an address, the same nodes are eligible for it
+-- where all stays that decides who may announce an address but at some nodes, the same others are eligible for it
 abbrev pub EligibleNodesStay : Type 0
-EligibleNodesStay = (v w : ViewValue) (address : AddressValue) → StaysAt v w address → (node : List ℕ) → IsEligible w address node ↔ IsEligible v address node
+EligibleNodesStay = (v w : ViewValue) (nodes : List (List ℕ)) (address : AddressValue) → StaysAt v w nodes address
+    → (node : List ℕ) → ¬ (Contains nodes node) → IsEligible w address node ↔ IsEligible v address node

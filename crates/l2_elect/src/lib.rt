@@ -6,8 +6,13 @@ mod election;
 mod eligible;
 mod laws;
 mod listening;
+mod move_list;
+mod winner;
 
 pub use announcers::Announcers;
 pub use election::{announcer, announces};
-pub use laws::{eligible_nodes_stay, one_announces, only_an_eligible_node_announces};
+pub use laws::{
+    election_moves_least, eligible_nodes_stay, one_announces, only_an_eligible_node_announces,
+};
 pub use listening::{listens, listens_known};
+pub use move_list::{Move, MoveList, elected_moves};

@@ -104,7 +104,7 @@ fn names_interface(interfaces: &TextList, interface: &str) -> bool
     interfaces.is_empty() || has_text(interfaces.as_slice(), interface)
 }
 
-fn has_text(texts: &[Text], text: &str) -> bool
+pub(crate) fn has_text(texts: &[Text], text: &str) -> bool
     ensures { result ≡ has_text texts.now text.now }
 {
     texts.iter().any(|held| held.as_str() == text)

@@ -2,6 +2,7 @@
 
 use crate::lane::Lane;
 use crate::rules::{ItemPass, MarkPass};
+use crate::untaken::Untaken;
 use std::marker::Model;
 
 /// A lane's right to send, which contracts see as the mail, the lane, and what it sent.
@@ -11,6 +12,7 @@ use std::marker::Model;
 pub struct LanePass {
     pub(crate) lane: Lane,
     pub(crate) count: u64,
+    pub(crate) untaken: Untaken,
     pub(crate) items: ItemPass,
     // It may do nothing, and names the other lane's queue.
     pub(crate) beside: ItemPass,

@@ -21,6 +21,7 @@ mod put_back;
 mod rules;
 mod settling;
 mod taken;
+mod untaken;
 
 pub use inbox_pass::InboxPass;
 pub use item::Item;

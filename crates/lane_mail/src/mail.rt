@@ -14,6 +14,7 @@ use crate::put_back::PutBack;
 use crate::rules::{Beside, FirstLane, Get, Items, Marks, Put, SecondLane};
 use crate::settling::settle;
 use crate::taken::Taken;
+use crate::untaken::Untaken;
 use mlb_base::NoMemory;
 use std::alloc::Global;
 use std::marker::Model;
@@ -74,6 +75,7 @@ impl Mail {
         let first = LanePass {
             lane: Lane::First,
             count: 0,
+            untaken: Untaken::new(alloc),
             items: first_items.another::<FirstLane>(&mut first_inbox),
             beside: second_items.another::<Beside>(&mut second_inbox),
             marks: marks.another::<FirstLane>(&mut inbox_marks),
@@ -81,6 +83,7 @@ impl Mail {
         let second = LanePass {
             lane: Lane::Second,
             count: 0,
+            untaken: Untaken::new(alloc),
             items: second_items.another::<SecondLane>(&mut second_inbox),
             beside: first_items.another::<Beside>(&mut first_inbox),
             marks: marks.another::<SecondLane>(&mut inbox_marks),
@@ -120,18 +123,27 @@ impl Mail {
         }
     }
 
-    /// Sends the item, and waits until fewer than 65,536 items of the lane lie untaken. The item comes back only for want of memory, and then nothing was
-    /// sent. A lane may send 2^61 items.
+    /// Sends the item, and waits until fewer than 65,536 items of the lane lie untaken, and fewer than 67,108,864 octets of their lines; this one's has
+    /// `octets`. The item comes back only for want of memory, and then nothing was sent. A lane may send 2^61 items.
     ///
     /// Before the first `take` it doesn't wait for room: where no thread could be made for whoever takes, both lanes are sent whole before anything is
     /// taken. So whoever takes goes on until both lanes have ended.
-    pub fn put<R: Wait>(&self, rt: &R, pass: &mut LanePass, item: Item) -> Result<(), PutBack>
+    pub fn put<R: Wait>(
+        &self,
+        rt: &R,
+        pass: &mut LanePass,
+        item: Item,
+        octets: usize,
+    ) -> Result<(), PutBack>
         requires mail { pass.old.mail ≡ self.now }
         requires lane { item.lane ≡ pass.old.lane }
         requires room { length pass.old.sent < 2 ^ 61 }
         ensures ok { OnOk result (pass.new ≡ sent_more pass.old item) }
         ensures err { IfErr result (λ back. (back.item ≡ item) × (pass.new ≡ pass.old)) }
     {
+        if pass.untaken.add(octets).is_err() {
+            return Err(PutBack { item });
+        }
         match self
             .items(pass.lane)
             .push_as::<Put, R>(rt, &mut pass.items, item)
@@ -139,10 +151,14 @@ impl Mail {
             Ok(()) => {
                 pass.count += 1;
                 self.parking.wake_taker();
-                self.parking.wait_for_room(rt, pass.lane, pass.count);
+                self.parking
+                    .wait_for_room(rt, pass.lane, pass.count, &mut pass.untaken);
                 Ok(())
             }
-            Err(item) => Err(PutBack { item }),
+            Err(item) => {
+                pass.untaken.forget_last();
+                Err(PutBack { item })
+            }
         }
     }
 
@@ -154,6 +170,7 @@ impl Mail {
         let LanePass {
             lane,
             count,
+            untaken: _,
             items,
             beside,
             mut marks,

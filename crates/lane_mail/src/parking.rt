@@ -1,28 +1,25 @@
 //! How the threads of a mail wait for one another.
 //!
 //! No wake-up is lost. A token is left behind each put, and behind each token that it took, whoever takes looks into the queues of both lanes and into that
-//! of the end marks before it waits again: what was put before is seen then, and what is put later leaves a token again. A sender that waits was told of
-//! 65,536 untaken items or more, so more than 64,512 are in its lane's queue; whoever takes finds them without waiting, at each second item at the latest,
-//! tells of the next 1,024 taken ones, and leaves a token behind that. The number told of only grows, and is looked at behind each token.
+//! of the end marks before it waits again: what was put before is seen then, and what is put later leaves a token again. A sender that waits names the
+//! number of items at which it is to be woken, and looks behind that whether so many were taken; whoever takes tells how many were taken, and looks behind
+//! that whether this number is awaited. All of this has one order, so one of the two sees what the other did. The number awaited is one of an item that
+//! lies in the lane's queue: whoever takes comes to it without waiting, and leaves a token there.
 //!
 //! Nor do they wait for each other: whoever takes waits only where the queues of both lanes are empty, and a sender only where its own isn't.
 
 use crate::lane::Lane;
+use crate::untaken::Untaken;
 use std::sync::Wait;
 use std::sync::atomic::{AtomicBool, AtomicU64, Ordering};
 use std::thread::Parker;
-
-// Of so many items untaken the sender waits.
-const UNTAKEN_LIMIT: u64 = 65_536;
-
-// A sender is told of taken items by so many at once.
-const TOLD_AT_ONCE: u64 = 1_024;
 
 // What a lane's sender waits for.
 #[derive(Drop)]
 struct Room {
     sender: Parker,
     taken: AtomicU64,
+    awaited: AtomicU64,
 }
 
 impl Room {
@@ -30,6 +27,7 @@ impl Room {
         Room {
             sender: Parker::new(),
             taken: AtomicU64::new(0),
+            awaited: AtomicU64::new(0),
         }
     }
 }
@@ -77,22 +75,33 @@ impl Parking {
 
     /// So many items of the lane were taken.
     pub(crate) fn tell_taken(&self, lane: Lane, count: u64) {
-        if count % TOLD_AT_ONCE == 0 {
-            let room = self.room(lane);
-            room.taken.store(count, Ordering::SeqCst);
+        let room = self.room(lane);
+        room.taken.store(count, Ordering::SeqCst);
+        if room.awaited.load(Ordering::SeqCst) == count {
             room.sender.unpark();
         }
     }
 
-    /// Waits while too many of the lane's items, of which so many were sent, lie untaken. It doesn't wait before anything is taken.
-    pub(crate) fn wait_for_room<R: Wait>(&self, rt: &R, lane: Lane, sent: u64) {
+    /// Waits while too much of the lane, of which so many items were sent, lies untaken. It doesn't wait before anything is taken.
+    pub(crate) fn wait_for_room<R: Wait>(
+        &self,
+        rt: &R,
+        lane: Lane,
+        sent: u64,
+        untaken: &mut Untaken,
+    ) {
         let room = self.room(lane);
         for _ in rt.forever() {
-            let untaken = sent.saturating_sub(room.taken.load(Ordering::SeqCst));
-            if untaken < UNTAKEN_LIMIT || !self.has_begun.load(Ordering::SeqCst) {
+            let taken = room.taken.load(Ordering::SeqCst);
+            untaken.keep(sent.saturating_sub(taken));
+            if !untaken.is_full() || !self.has_begun.load(Ordering::SeqCst) {
                 return;
             }
-            room.sender.park(rt);
+            let awaited = taken.saturating_add(untaken.share());
+            room.awaited.store(awaited, Ordering::SeqCst);
+            if room.taken.load(Ordering::SeqCst) < awaited {
+                room.sender.park(rt);
+            }
         }
     }
 }

@@ -43,7 +43,13 @@ pub trait PacedWait<K: Sink> {
 /// The other calls of a mail. They may wait too, but give none of its items while the lanes go on.
 pub trait MailWait {
     /// `Mail::put`.
-    fn put(&self, mail: &Mail, pass: &mut LanePass, item: Item) -> Result<(), PutBack>
+    fn put(
+        &self,
+        mail: &Mail,
+        pass: &mut LanePass,
+        item: Item,
+        octets: usize,
+    ) -> Result<(), PutBack>
         requires mail { pass.old.mail ≡ mail.now }
         requires lane { item.lane ≡ pass.old.lane }
         requires room { length pass.old.sent < 2 ^ 61 }
@@ -87,8 +93,14 @@ impl<R: Wait, K: Sink> PacedWait<K> for R {
 
 /// What is a `Wait` is one for mails.
 impl<R: Wait> MailWait for R {
-    fn put(&self, mail: &Mail, pass: &mut LanePass, item: Item) -> Result<(), PutBack> {
-        mail.put(self, pass, item)
+    fn put(
+        &self,
+        mail: &Mail,
+        pass: &mut LanePass,
+        item: Item,
+        octets: usize,
+    ) -> Result<(), PutBack> {
+        mail.put(self, pass, item, octets)
     }
 
     fn end(&self, mail: &Mail, pass: LanePass) -> LaneDone {

@@ -16,15 +16,21 @@ use lane_mail::{Item, Lane, LaneDone, LanePass, Mail};
 use mlb_edge::{LineReader, Source};
 use std::alloc::Global;
 
-/// Sends the item, and answers whether there was memory for it.
-fn put_item<R: MailWait>(rt: &R, mail: &Mail, pass: &mut LanePass, item: Item) -> bool
+/// Sends the item, whose line has so many octets, and answers whether there was memory for it.
+fn put_item<R: MailWait>(
+    rt: &R,
+    mail: &Mail,
+    pass: &mut LanePass,
+    item: Item,
+    octets: usize,
+) -> bool
     requires mail { pass.old.mail ≡ mail.now }
     requires lane { item.lane ≡ pass.old.lane }
     requires room { length pass.old.sent < 2 ^ 61 }
     ensures sent { IsTrue result → pass.new ≡ sent_more pass.old item }
     ensures unsent { IsTrue (not result) → pass.new ≡ pass.old }
 {
-    match rt.put(mail, pass, item) {
+    match rt.put(mail, pass, item, octets) {
         Ok(()) => true,
         Err(back) => {
             drop(back);
@@ -66,6 +72,7 @@ fn send_next<L: Lanes, T: Turner, R: MailWait, S: Source>(
         Ok(None) => return Some(LaneEnd::Done),
         Err(end) => return Some(end_of(end)),
     };
+    let octets = line.bytes.len();
     let item = match item_of_line::<L>(alloc, lane, line) {
         Ok(item) => item,
         Err(end) => return Some(end),
@@ -74,7 +81,7 @@ fn send_next<L: Lanes, T: Turner, R: MailWait, S: Source>(
         Ok(sent) => sent,
         Err(end) => return Some(end),
     };
-    if put_item(rt, mail, pass, sent) {
+    if put_item(rt, mail, pass, sent, octets) {
         None
     } else {
         Some(LaneEnd::NoMemory)

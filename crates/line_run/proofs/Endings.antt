@@ -22,8 +22,8 @@ use Rattle.line_run.specs.Explains.{LimitStops, Explains}
 use Rattle.line_run.specs.Machine.{Stops, Rules}
 use Rattle.line_run.specs.Statuses.{IsHeld, IsLineStatus, IsEndStatus}
 use Rattle.line_run.specs.Steps.{Refuses, HaltsAt}
-use Rattle.line_run.specs.RunOutput.{StopsAs, WritesOnly, WritesRead}
-use Rattle.line_run.proofs.Driven.{Driven, still, stops, stops_at, writes_upto, writes_upto_line, writes_in_part, writes_only, writes_only_line, writes_read}
+use Rattle.line_run.specs.RunOutput.{StopsAs, WritesOnly, WritesRead, WritesUpTo}
+use Rattle.line_run.proofs.Driven.{Driven, still, stops, stops_at, writes_upto, writes_upto_line, writes_in_part, writes_read, only_upto}
 use Rattle.line_run.proofs.Texts.{part_upto}
 
 module _ {S E : Type 0} (rules : Rules S E) (cause : Status → Type 0) (first : S) (start left before after : Option (List ℕ))
@@ -102,15 +102,15 @@ module _ {S E : Type 0} (rules : Rules S E) (cause : Status → Type 0) (first :
       (stops_at rules first start now next s before after line status (still rules first start now s before mid after so_far e.1) comes e.0)
   explains_line (Halted halt) e = halts_line halt e
 
-  only_halted : (halt : Halt) → HaltsAt halt rules s line mid after m n → WritesOnly rules first before after
-  only_halted halts.WriteFault e =
-      writes_only_line rules first start now s e.next before mid after line e.entries so_far e.steps (part_upto mid after _ e.halts.0)
-  only_halted halts.NoMemory (inl nothing) = writes_only rules first start now s before after (still rules first start now s before mid after so_far nothing)
-  only_halted halts.NoMemory (inr e) = writes_only_line rules first start now s e.next before mid after line e.entries so_far e.steps e.halts
+  upto_halted : (halt : Halt) → HaltsAt halt rules s line mid after m n → WritesUpTo rules first start before after
+  upto_halted halts.WriteFault e =
+      writes_upto_line rules first start now next s e.next before mid after line e.entries so_far comes e.steps (part_upto mid after _ e.halts.0)
+  upto_halted halts.NoMemory (inl nothing) = writes_upto rules first start now s before after (still rules first start now s before mid after so_far nothing)
+  upto_halted halts.NoMemory (inr e) = writes_upto_line rules first start now next s e.next before mid after line e.entries so_far comes e.steps e.halts
 
-  pub only_line : (refusal : Refusal) → Refuses refusal rules s line mid after m n → WritesOnly rules first before after
-  only_line (Stopped status) e = writes_only rules first start now s before after (still rules first start now s before mid after so_far e.1)
-  only_line (Halted halt) e = only_halted halt e
+  pub upto_line : (refusal : Refusal) → Refuses refusal rules s line mid after m n → WritesUpTo rules first start before after
+  upto_line (Stopped status) e = writes_upto rules first start now s before after (still rules first start now s before mid after so_far e.1)
+  upto_line (Halted halt) e = upto_halted halt e
 
 -- a step ends the run
 module _ {S E : Type 0} (rules : Rules S E) (cause : Status → Type 0) (first : S) (start : Option (List ℕ)) (old new : Reading) (left left' : Option (List ℕ))
@@ -139,11 +139,14 @@ module _ {S E : Type 0} (rules : Rules S E) (cause : Status → Type 0) (first :
       rw u.is (explains_line rules cause first start left' (to_come old left) (to_come new left') s before mid after u.line so_far u.comes (can u.line) reads k'
       writes m m' writes_later u.refusal u.refuses)
 
-  pub only_step : Ends rules s status (to_come old left) (to_come new left') new.held left' mid after k k' m m' → WritesOnly rules first before after
-  only_step (inl (last, nothing)) =
-      writes_only rules first start (to_come old left) s before after (still rules first start (to_come old left) s before mid after so_far nothing)
-  only_step (inr (inl (unread, nothing))) =
-      writes_only rules first start (to_come old left) s before after (still rules first start (to_come old left) s before mid after so_far nothing)
-  only_step (inr (inr u)) =
-      only_line rules cause first start left' (to_come old left) (to_come new left') s before mid after u.line so_far u.comes (can u.line) reads k' writes m m'
+  upto_step : Ends rules s status (to_come old left) (to_come new left') new.held left' mid after k k' m m' → WritesUpTo rules first start before after
+  upto_step (inl (last, nothing)) =
+      writes_upto rules first start (to_come old left) s before after (still rules first start (to_come old left) s before mid after so_far nothing)
+  upto_step (inr (inl (unread, nothing))) =
+      writes_upto rules first start (to_come old left) s before after (still rules first start (to_come old left) s before mid after so_far nothing)
+  upto_step (inr (inr u)) =
+      upto_line rules cause first start left' (to_come old left) (to_come new left') s before mid after u.line so_far u.comes (can u.line) reads k' writes m m'
       writes_later u.refusal u.refuses
+
+  pub only_step : Ends rules s status (to_come old left) (to_come new left') new.held left' mid after k k' m m' → WritesOnly rules first start before after
+  only_step ended = only_upto rules first start before after (upto_step ended)

@@ -107,8 +107,8 @@ module _ {S E : Type 0} (rules : Rules S E) (cause : Status → Type 0) (s : S) 
     pub read : AfterRead rules s status left left' before after
     pub part : AfterWrite rules s status left before after
     pub no_memory : AtNoMemory rules s status left before after
-    -- over any input at all a beginning of the text of some lines' run
-    pub only : WritesOnly rules s before after
+    -- over any input at all a beginning of the text of its lines' run
+    pub only : WritesOnly rules s left before after
     -- but for a fault or want of memory the status is that of the lines; and where all can be driven, the run is done
     pub exact : IsExact rules s status left
     pub complete : IsComplete rules s status left

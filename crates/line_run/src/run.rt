@@ -27,7 +27,7 @@ fn drive_lines<M: Machine, S: PacedSource<K>, K: Sink>(
         (S.left input.old) (S.left input.new) (K.written out.old) (K.written out.new)
         (S.faults input.old) (S.faults input.new) (K.faults out.old) (K.faults out.new) }
     ensures only { WritesOnly M.rules (M.state machine.old)
-        (K.written out.old) (K.written out.new) }
+        (S.left input.old) (K.written out.old) (K.written out.new) }
 {
     'lines: loop {
         if let Some(status) = next_step(alloc, reader, machine, input, out) {
@@ -49,7 +49,7 @@ fn run_lines<M: Machine, S: PacedSource<K>, K: Sink>(
         (S.left input.old) (S.left input.new) (K.written out.old) (K.written out.new)
         (S.faults input.old) (S.faults input.new) (K.faults out.old) (K.faults out.new) }
     ensures only { WritesOnly M.rules (M.state machine.old)
-        (K.written out.old) (K.written out.new) }
+        (S.left input.old) (K.written out.old) (K.written out.new) }
 {
     let Ok(mut reader) = LineReader::new(alloc) else {
         return Status::NoMemory;

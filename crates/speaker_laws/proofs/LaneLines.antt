@@ -1,6 +1,5 @@
 -- Items that are taken are lines that are taken.
-use Rattle.std.proofs.Common.{◌≡◌, List, [], ◌∷◌, ◌++◌, Result, refl, ap, ◌∙◌}
-use Rattle.std.proofs.lemmas.List.{append-nil}
+use Rattle.std.proofs.Common.{◌≡◌, List, [], ◌∷◌, Result, refl, ap, ◌∙◌}
 use Rattle.std.specs.List.{AllByRecursion}
 use Rattle.kube_model.specs.declared.event.Event.{Event}
 use Rattle.kube_model.specs.declared.event.EventFault.{EventFault}
@@ -9,23 +8,19 @@ use Rattle.lane_drive.specs.Laws.{IsRead}
 use Rattle.lane_drive.proofs.ReadItems.{items_are_read}
 use Rattle.lane_mail.specs.declared.item.Item.{Item}
 use Rattle.line_run.specs.Run.{AreTaken}
-use Rattle.mlb_base.proofs.Lists.{all-behind, all-front}
 use Rattle.mlb_edge.specs.declared.lines.Line.{Line}
 use Rattle.speaker_machine.specs.declared.transcript.TranscriptEntry.{TranscriptEntry}
 use Rattle.speaker_machine.specs.Lanes.{belongs_to, item_step, lane_rules}
 use Rattle.speaker_machine.specs.Stream.{SpeakerState, line_step, speaker_rules}
 use Rattle.speaker_laws.proofs.Quiet.{item_goes}
-use Rattle.speaker_laws.specs.LaneLaws.{HaveEvents, event_in, ItemsAreAsLines, ItemsTellWhatIsAnnounced}
-use Rattle.speaker_laws.specs.LaneLaws.{ItemsTellWhatChanges, ItemsSendWhatIsMeant, ItemsMakeRoutes}
-use Rattle.speaker_laws.specs.Heard.{HearsItsRoutes}
-use Rattle.speaker_laws.specs.Meant.{SendsWhatIsMeant}
-use Rattle.speaker_laws.specs.Told.{TellsWhatIsAnnounced, TellsWhatChanges}
+use Rattle.speaker_laws.specs.Clauses.{begun_by}
+use Rattle.speaker_laws.specs.LaneClauses.{LanesAreRight}
+use Rattle.speaker_laws.specs.LaneLaws.{HaveEvents, event_in, ItemsAreAsLines}
+use Rattle.speaker_laws.proofs.Right.{right_by}
+use Rattle.std.specs.Prelude.{String}
 
 abbrev AreRead : List Item → Type 0
 AreRead items = AllByRecursion (IsRead belongs_to) items
-
-read_parts : (items : List Item) (item : Item) → AreRead (items ++ item ∷ []) → AreRead items × IsRead belongs_to item
-read_parts items item all = (all-front (IsRead belongs_to) items (item ∷ []) all, (all-behind (IsRead belongs_to) items (item ∷ []) all).0)
 
 -- a line that reads as the event of the item
 abbrev line_for : (item : Item) → IsRead belongs_to item → Line
@@ -58,28 +53,10 @@ lines_taken (item ∷ items) all replies s t told (own, behind, next, entries, m
 module _ (start : SpeakerState) where
   pub items_as_lines : ItemsAreAsLines start
   items_as_lines items t told taken =
-      let all = items_are_read belongs_to taken.first taken.second (items ++ []) taken.begin in
-      let read : AreRead items = rw (append-nil items) at all in
+      let read = items_are_read belongs_to taken.first taken.second items taken.begin in
       (lines_for items read, lines_have items read, lines_taken items read taken.replies start t told taken.taken)
 
-  pub items_tell : TellsWhatIsAnnounced start → ItemsTellWhatIsAnnounced start
-  items_tell tells items t told taken =
-      let (lines, events, goes) = items_as_lines items t told taken in
-      tells lines t (entries_of told) goes
-
-  pub items_make : HearsItsRoutes start → ItemsMakeRoutes start
-  items_make hears items t told taken hop is peer inside =
-      let (lines, events, goes) = items_as_lines items t told taken in
-      (lines, events, goes, hears lines t (entries_of told) goes hop is peer inside)
-
-  pub items_send : SendsWhatIsMeant start → ItemsSendWhatIsMeant start
-  items_send sends items item s t told entries taken goes =
-      let (read, last) = read_parts items item (items_are_read belongs_to taken.first taken.second (items ++ item ∷ []) taken.begin) in
-      sends (lines_for items read) s (entries_of told) (lines_taken items read taken.replies start s told taken.taken) (line_for item last) t entries
-      (line_is item last s ∙ goes) item.event last.read
-
-  pub items_tell_changes : TellsWhatChanges start → ItemsTellWhatChanges start
-  items_tell_changes tells items item s t told entries taken goes =
-      let (read, last) = read_parts items item (items_are_read belongs_to taken.first taken.second (items ++ item ∷ []) taken.begin) in
-      tells (lines_for items read) s (entries_of told) (lines_taken items read taken.replies start s told taken.taken) (line_for item last) t entries
-      (line_is item last s ∙ goes)
+pub lanes_right : {Z : Type 0} → (words : List (String Z)) → LanesAreRight words
+lanes_right words items t told taken =
+    let (lines, events, goes) = items_as_lines (begun_by words) items t told taken in
+    record { lines = lines; events = events; taken = goes; right = right_by words lines }

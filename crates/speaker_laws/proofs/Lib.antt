@@ -1,3 +1,4 @@
+pub mod Answered
 pub mod Begun
 pub mod ChangesTold
 pub mod Meant
@@ -6,4 +7,5 @@ pub mod Telling
 pub mod Written
 pub mod Heard
 pub mod Fitting
+pub mod Right
 pub mod LaneLines

@@ -1,4 +1,4 @@
--- What runs begin with by their words, and what holds of each that begins so over lines.
+-- What runs begin with by their words.
 use Rattle.std.specs.Prelude.{◌≡◌, ℕ, Bool, false, if◌then◌else◌, List, [], String, Option, Some, None}
 use Rattle.std.specs.List.{AllZip}
 use Rattle.ip_ranges.specs.Values.{AddressValue}
@@ -10,10 +10,6 @@ use Rattle.speaker_words.specs.Reading.{said_in}
 use Rattle.speaker_words.specs.Words.{Said, Say}
 use Rattle.speaker_machine.specs.declared.local_node.Interface.{Interface}
 use Rattle.speaker_machine.specs.Stream.{SpeakerState, first_state}
-use Rattle.speaker_laws.specs.Heard as heard
-use Rattle.speaker_laws.specs.Meant as meant
-use Rattle.speaker_laws.specs.Told as told
-use Rattle.speaker_laws.specs.Written as in_lines
 
 abbrev pub nothing_said : Said
 nothing_said = record { node = []; class = None; interfaces = []; next_hop = None; next_hop_v6 = None; lanes = None; responder = false }
@@ -66,38 +62,3 @@ pub record SpeaksFor (said : Said) (s : SpeakerState) (lanes : Option LaneNames)
 abbrev pub SpeaksForNamed : {Z : Type 0} → List (String Z) → Type 0
 SpeaksForNamed words = (said : Said) → Say (texts_of words) said
     → SpeaksFor said (begun_by words) (lanes_of (texts_of words)) (responds_in (said_in (texts_of words)))
-
--- after each line of a run the addresses with an announce line and no later withdraw line are those that the node announces
-abbrev pub TellsWhatIsAnnounced : {Z : Type 0} → List (String Z) → Type 0
-TellsWhatIsAnnounced words = told.TellsWhatIsAnnounced (begun_by words)
-
--- at each line of a run just what its event changes for the node is told, in its order
-abbrev pub TellsWhatChanges : {Z : Type 0} → List (String Z) → Type 0
-TellsWhatChanges words = told.TellsWhatChanges (begun_by words)
-
--- at each line of a run just the frames are sent that are meant of its event
-abbrev pub SendsWhatIsMeant : {Z : Type 0} → List (String Z) → Type 0
-SendsWhatIsMeant words = meant.SendsWhatIsMeant (begun_by words)
-
--- after each line of a run, with a next hop, what a peer of the configuration in force was told since it came, or since its AS numbers last
--- changed, makes its routes of the empty table
-abbrev pub TellsPeersTheirRoutes : {Z : Type 0} → List (String Z) → Type 0
-TellsPeersTheirRoutes words = heard.HearsItsRoutes (begun_by words)
-
--- of the lines that are written, as they stand in the text: they tell so what is announced
-abbrev pub WritesWhatIsAnnounced : {Z : Type 0} → List (String Z) → Type 0
-WritesWhatIsAnnounced words = in_lines.WritesWhatIsAnnounced (begun_by words)
-
--- and the update lines carry each peer's routes
-abbrev pub WritesPeersTheirRoutes : {Z : Type 0} → List (String Z) → Type 0
-WritesPeersTheirRoutes words = in_lines.WritesPeersTheirRoutes (begun_by words)
-
--- So is each run that the words begin, whatever its lines: it is that of what they say, and so much is told and written of them.
-pub record RunsTell {Z : Type 0} (words : List (String Z)) : Type 0 where
-  pub named : SpeaksForNamed words
-  pub told : TellsWhatIsAnnounced words
-  pub changes : TellsWhatChanges words
-  pub sends : SendsWhatIsMeant words
-  pub routes : TellsPeersTheirRoutes words
-  pub told_written : WritesWhatIsAnnounced words
-  pub routes_written : WritesPeersTheirRoutes words

@@ -1,33 +1,23 @@
 -- What holds of each run over two lanes that words begin.
 use Rattle.std.specs.Prelude.{List, String}
+use Rattle.lane_drive.specs.Drive.{Told, entries_of}
+use Rattle.lane_mail.specs.declared.item.Item.{Item}
+use Rattle.line_run.specs.Run.{AreTaken}
+use Rattle.mlb_edge.specs.declared.lines.Line.{Line}
+use Rattle.speaker_machine.specs.declared.transcript.TranscriptEntry.{TranscriptEntry}
+use Rattle.speaker_machine.specs.Stream.{SpeakerState, speaker_rules}
 use Rattle.speaker_laws.specs.Clauses.{begun_by}
-use Rattle.speaker_laws.specs.LaneLaws as laws
+use Rattle.speaker_laws.specs.LaneLaws.{HaveEvents, TakesItems}
+use Rattle.speaker_laws.specs.Right.{IsRightRun}
 
--- whatever items are taken, there are lines with their events, one for each, that are taken so in one stream; so what holds of what is told of
--- any lines holds of what is told over lanes
-abbrev pub LanesAreAsLines : {Z : Type 0} → List (String Z) → Type 0
-LanesAreAsLines words = laws.ItemsAreAsLines (begun_by words)
+-- There are lines with the events of these items, one for each, that are taken so in one stream, and their run is right.
+pub record AreRightAsLines {Z : Type 0} (words : List (String Z)) (items : List Item) (t : SpeakerState) (told : List (Told TranscriptEntry)) : Type 0 where
+  pub lines : List Line
+  pub events : HaveEvents lines items
+  pub taken : AreTaken speaker_rules lines (begun_by words) t (entries_of told)
+  pub right : IsRightRun words lines
 
--- after any items the addresses with an announce line and no later withdraw line are those that the node announces
-abbrev pub LanesTellWhatIsAnnounced : {Z : Type 0} → List (String Z) → Type 0
-LanesTellWhatIsAnnounced words = laws.ItemsTellWhatIsAnnounced (begun_by words)
-
--- at each item just the frames are sent that are meant of its event
-abbrev pub LanesSendWhatIsMeant : {Z : Type 0} → List (String Z) → Type 0
-LanesSendWhatIsMeant words = laws.ItemsSendWhatIsMeant (begun_by words)
-
--- at each item just what its event changes for the node is told
-abbrev pub LanesTellWhatChanges : {Z : Type 0} → List (String Z) → Type 0
-LanesTellWhatChanges words = laws.ItemsTellWhatChanges (begun_by words)
-
--- after any items, with a next hop, each peer of the configuration in force has heard its routes
-abbrev pub LanesMakeRoutes : {Z : Type 0} → List (String Z) → Type 0
-LanesMakeRoutes words = laws.ItemsMakeRoutes (begun_by words)
-
--- So is each run over lanes that the words begin, whatever its items: it is as one in one stream, and so much is told of them.
-pub record LanesTell {Z : Type 0} (words : List (String Z)) : Type 0 where
-  pub as_lines : LanesAreAsLines words
-  pub told : LanesTellWhatIsAnnounced words
-  pub changes : LanesTellWhatChanges words
-  pub sends : LanesSendWhatIsMeant words
-  pub routes : LanesMakeRoutes words
+-- so it is whatever items are taken
+abbrev pub LanesAreRight : {Z : Type 0} → List (String Z) → Type 0
+LanesAreRight words = (items : List Item) (t : SpeakerState) (told : List (Told TranscriptEntry)) → TakesItems (begun_by words) items t told
+    → AreRightAsLines words items t told

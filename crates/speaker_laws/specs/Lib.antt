@@ -1,7 +1,9 @@
+pub mod Answered
 pub mod Clauses
 pub mod Heard
 pub mod LaneClauses
 pub mod LaneLaws
 pub mod Meant
+pub mod Right
 pub mod Told
 pub mod Written

@@ -4,6 +4,6 @@
 mod laws;
 
 pub use laws::{
-    all_send_what_is_meant, lanes_tell, lines_tell_what_is_announced, peers_hear_their_routes,
-    runs_tell,
+    all_send_what_is_meant, answers_are_for_what_stands, lanes_are_right,
+    lines_tell_what_is_announced, peers_hear_their_routes, runs_are_right,
 };

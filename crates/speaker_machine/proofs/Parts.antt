@@ -1,14 +1,16 @@
 -- What is told of the parts that a change may have changed is what the views before and after say.
 use Rattle.std.proofs.Common.{◌≡◌, ◌++◌, ℕ, zero, suc, ◌+◌, ◌<◌, Bool, true, false, cond, List, [], ◌∷◌, length, get_or, drop, drop-cons, add-one}
-use Rattle.std.proofs.Common.{append_assoc, map, filter, Option, Some, None, Result, Ok, Err, OnOk, arith, inl, inr, refl, sym, ap, ap₂, ◌∙◌, subst, is_some}
+use Rattle.std.proofs.Common.{append_assoc, map, filter, Option, Some, None, Result, Ok, Err, OnOk, arith, inl, inr, refl, sym, ap, ap₂, ◌∙◌, subst, is_some, Contains}
 use Rattle.std.proofs.lemmas.List.{append-nil}
-use Rattle.std.proofs.lemmas.Bool.{and_parts, cond_both}
+use Rattle.std.proofs.lemmas.Bool.{and_parts, cond_both, or_parts, true≢false}
 use Rattle.std.proofs.lemmas.List.Elements.{All-from_recursion, recursion_from_All}
 use Rattle.std.specs.List.{AllByRecursion, find, flat_map, list_any}
 use Rattle.std.specs.Option.{option_map, unwrap_or}
 use Rattle.ip_ranges.specs.declared.family.Family.TheVariants.{V4, V6}
 use Rattle.ip_ranges.specs.Values.{AddressValue, PrefixValue, same_family}
 use Rattle.ip_ranges.proofs.AddressLaws.{same_family-is}
+use Rattle.kube_labels.specs.Names.{has_text}
+use Rattle.kube_labels.proofs.NameLaws.{has_text-Decides}
 use Rattle.mlb_base.specs.Items.{IsIn}
 use Rattle.pool_config.specs.ConfigValue.{ConfigValue}
 use Rattle.pool_config.specs.declared.compiled.CompiledPeer.{CompiledPeer}
@@ -34,7 +36,7 @@ use Rattle.bgp_routes.proofs.Families.{routes-of-ipv4}
 use Rattle.speaker_machine.specs.declared.transcript.TranscriptEntry.{TranscriptEntry}
 use Rattle.speaker_machine.specs.declared.local_node.NextHops.{NextHops}
 use Rattle.speaker_machine.specs.declared.local_node.LocalNode.{LocalNode}
-use Rattle.speaker_machine.specs.Kept.{AreKeptWith, AreRoutesOf, WereKept, WereKeptWith, WereRoutes, changed_part, part_at, part_updates}
+use Rattle.speaker_machine.specs.Kept.{AreKeptWith, AreRoutesOf, WereKept, WereKeptWith, WereRoutes, changed_part, of_node, part_at, part_updates}
 use Rattle.speaker_machine.specs.Updates.{is_one_peer, table_by, table_of, updated, updates_by, updates_to, are_hops, both_with, is_v6}
 use Rattle.speaker_machine.proofs.NamedPeers.{NamesAscend, found}
 
@@ -159,17 +161,30 @@ part-hops hops change v node peer are =
     (λ none. subst (λ (b : Bool). AreV4 (part_at change v node b peer)) (sym none) (part-v4 change v node peer))
 
 -- ---- behind an event what is kept was right for the view before
-were-with : (hop : Option NextHops) (kept : KeptValue) (v w : ViewValue) (change : ViewChange) → AreKeptWith hop kept v → OthersStay v w change
-    → WereKeptWith hop change kept v w
-were-with None kept v w change are stay = are
-were-with (Some hop) kept v w change are stay = record { right = are; differs = λ some. changed-differ v w change stay some kept.node }
+none-named : (names : List (List ℕ)) (node : List ℕ) → has_text names node ≡ false → ¬ (Contains names node)
+none-named names node none there = true≢false (sym ((has_text-Decides names node).1 there) ∙ none)
+
+were-kept : (kept : KeptValue) (v w : ViewValue) (change : ViewChange) → AreKeptFor v kept → OthersStay v w change
+    → WereKept (of_node kept.node change) kept v w
+were-kept kept v w change are stay = record {
+  right = are;
+  differs = λ some.
+      let parts = or_parts change.all (has_text change.nodes kept.node) some in
+      changed-differ v w change stay parts.0 kept.node (none-named change.nodes kept.node parts.1);
+}
+
+were-with : (hop : Option NextHops) (node : List ℕ) (kept : KeptValue) (v w : ViewValue) (change : ViewChange) → kept.node ≡ node → AreKeptWith hop kept v
+    → OthersStay v w change → WereKeptWith hop (of_node node change) kept v w
+were-with None node kept v w change own are stay = are
+were-with (Some hop) node kept v w change own are stay =
+    subst (λ (n : List ℕ). WereKept (of_node n change) kept v w) own (were-kept kept v w change are stay)
 
 pub were-routes : (kept : KeptValue) (v w : ViewValue) (local : LocalNode) (change : ViewChange) → AreRoutesOf kept v local → OthersStay v w change
-    → WereRoutes change kept v w local
+    → WereRoutes (of_node local.node change) kept v w local
 were-routes kept v w local change are stay = record {
   node = are.node;
   both = are.both;
-  right = were-with local.next_hops kept v w change are.right stay;
+  right = were-with local.next_hops local.node kept v w change are.node are.right stay;
 }
 
 -- ---- with the words' next hop, or without one

@@ -1,6 +1,7 @@
 -- The routes of peers, as they are kept from event to event.
-use Rattle.std.specs.Prelude.{◌≡◌, ℕ, Bool, false, if◌then◌else◌, List, map, Option, Some, None, ⊤}
+use Rattle.std.specs.Prelude.{◌≡◌, ◌||◌, ℕ, Bool, false, if◌then◌else◌, List, map, Option, Some, None, ⊤}
 use Rattle.ip_ranges.specs.Values.{PrefixValue}
+use Rattle.kube_labels.specs.Names.{has_text}
 use Rattle.pool_config.specs.declared.compiled.CompiledPeer.{CompiledPeer}
 use Rattle.speaker_view.specs.declared.change.ViewChange.{ViewChange}
 use Rattle.speaker_view.specs.ViewValue.{ViewValue}
@@ -50,6 +51,10 @@ pub record WereRoutes (change : ViewChange) (kept : KeptValue) (before after : V
   pub node : kept.node ≡ local.node
   pub both : AreOfBoth local.next_hops kept
   pub right : WereKeptWith local.next_hops change kept before after
+
+-- the same for the routes of a node: all of them may be others where the change names it
+abbrev pub of_node : List ℕ → ViewChange → ViewChange
+of_node node change = record change { all = change.all || has_text change.nodes node }
 
 -- what of the table the change may have changed
 abbrev pub changed_part : ViewChange → ViewValue → List (PrefixValue × Terms) → List (PrefixValue × Terms)

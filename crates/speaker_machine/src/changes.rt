@@ -4,10 +4,11 @@ ghost use Rattle.std.specs.Option.{option_map};
 ghost use Rattle.kube_model.specs.declared.object.Kind.{Kind};
 ghost use Rattle.speaker_view.specs.View.{limit_by};
 ghost use Rattle.speaker_view.specs.ViewValue.{ViewValue};
-ghost use Rattle.l2_elect.specs.Kept.{AreKeptFor, AreKnown, AreRightBut};
+ghost use Rattle.kube_labels.specs.Names.{has_text};
+ghost use Rattle.l2_elect.specs.Kept.{AreKeptFor, AreKnown, WereKept};
 ghost use Rattle.announced_set.specs.Announced.{announced_by};
 ghost use Rattle.speaker_machine.specs.Transcript.{entries_for};
-ghost use Rattle.speaker_machine.specs.Kept.{AreRoutesKnown, AreRoutesOf, WereRoutes};
+ghost use Rattle.speaker_machine.specs.Kept.{AreRoutesKnown, AreRoutesOf, WereRoutes, of_node};
 ghost use Rattle.speaker_machine.specs.Stream.{changes_of, state_after};
 ghost use Rattle.speaker_machine.specs.Updates.{updates_by};
 
@@ -17,6 +18,7 @@ use crate::speaker::Speaker;
 use crate::transcript::{TranscriptEntry, entries_for};
 use announced_set::renew_announcers;
 use bgp_routes::KeptRoutes;
+use kube_labels::Text;
 use kube_model::Event;
 use l2_elect::Announcers;
 use mlb_base::{NoMemory, Sequence};
@@ -61,13 +63,11 @@ impl Speaker {
                 return Err(fault);
             }
         };
-        let Ok(entries) = told_since(alloc, &self.view, &self.local, note, &change, &mut standing)
+        let Ok(entries) = told_since(alloc, &self.view, &self.local, note, change, &mut standing)
         else {
-            drop(change);
             drop(standing);
             return Err(ApplyFault::NoMemory);
         };
-        drop(change);
         let Standing { announcers, routes } = standing;
         drop(self.announcers.replace(announcers));
         drop(self.routes.replace(routes));
@@ -155,25 +155,45 @@ fn told_since(
     view: &View,
     local: &LocalNode,
     note: TakeNote,
-    change: &ViewChange,
+    change: ViewChange,
     standing: &mut Standing,
 ) -> Result<Sequence<TranscriptEntry>, NoMemory>
-    requires announcers { AreRightBut change.now standing.old.announcers view.now }
-    requires routes { (before : ViewValue) × WereRoutes change.now standing.old.routes before view.now local.now }
+    requires announcers { WereKept change standing.old.announcers view.now }
+    requires routes { (before : ViewValue)
+        × WereRoutes (of_node local.now.node change) standing.old.routes before view.now local.now }
     ensures entries { IfOk result (λ entries. (before : ViewValue) → AreKeptFor standing.old.announcers before
-        → WereRoutes change.now standing.old.routes before view.now local.now → entries
+        → WereRoutes (of_node local.now.node change) standing.old.routes before view.now local.now → entries
         ≡ entries_for view.now local.now note (announced_by before local.now.node) (announced_by view.now local.now.node)
         ++ updates_by before view.now local.now.node local.now.next_hops) }
     ensures announcers { OnOk result (AreKeptFor standing.new.announcers view.now) }
     ensures routes { OnOk result (AreRoutesOf standing.new.routes view.now local.now) }
 {
-    let mut entries = changed_entries(alloc, view, local, note, change, &mut standing.announcers)?;
-    let routes = &mut standing.routes;
-    let Ok(()) = renew_routes(alloc, &mut entries, view, local, change, routes) else {
-        drop(entries);
-        return Err(NoMemory);
-    };
+    let announcers = &mut standing.announcers;
+    let mut entries = changed_entries(alloc, view, local, note, &change, announcers)?;
+    let change = of_node(&local.node, change);
+    renew_routes(
+        alloc,
+        &mut entries,
+        view,
+        local,
+        &change,
+        &mut standing.routes,
+    )?;
     Ok(entries)
+}
+
+/// The change, for the routes of the node: all of them may be others where it names the node.
+fn of_node(node: &Text, mut change: ViewChange) -> ViewChange
+    ensures { result ≡ of_node node.now change }
+{
+    change.all = change.all || has_text(change.nodes.as_slice(), node);
+    change
+}
+
+fn has_text(texts: &[Text], text: &Text) -> bool
+    ensures { result ≡ has_text texts.now text.now }
+{
+    texts.iter().any(|held| held == text)
 }
 
 /// The note, and what is told of the addresses that are announced no more, or from now on.
@@ -185,7 +205,7 @@ fn changed_entries(
     change: &ViewChange,
     announcers: &mut Announcers,
 ) -> Result<Sequence<TranscriptEntry>, NoMemory>
-    requires { AreRightBut change.now announcers.old view.now }
+    requires { WereKept change.now announcers.old view.now }
     ensures entries { IfOk result (λ entries. (was : ViewValue) → AreKeptFor announcers.old was
         → entries ≡ entries_for view.now local.now note (announced_by was local.now.node) (announced_by view.now local.now.node)) }
     ensures announcers { OnOk result (AreKeptFor announcers.new view.now) }

@@ -1,10 +1,10 @@
 -- An answer that is taken is one by events that were taken before it.
 use Rattle.std.proofs.Common.{◌≡◌, ℕ, ◌≤◌, Bool, true, false, cond, List, [], ◌∷◌, ◌++◌, length, map, take, Option, Some}
-use Rattle.std.proofs.Common.{refl, sym, ap, ◌∙◌, subst, arith, inl, inr}
+use Rattle.std.proofs.Common.{refl, sym, ap, ◌∙◌, subst, arith, inl, inr, append_assoc}
 use Rattle.std.proofs.lemmas.Bool.{false≢true}
 use Rattle.std.proofs.lemmas.List.{map-append, take-append-le}
 use Rattle.std.proofs.lemmas.List.Elements.{filter-append}
-use Rattle.std.specs.Prelude.{is_none}
+use Rattle.std.specs.Prelude.{is_none, String}
 use mathlib.Core.List.{IsPrefix}
 use Rattle.kube_model.specs.declared.event.Event.{Event}
 use Rattle.lane_drive.proofs.AsTheyAre.{begins_in}
@@ -20,11 +20,14 @@ use Rattle.mlb_base.specs.Items.{IsIn}
 use Rattle.speaker_machine.specs.Lanes.{belongs_to}
 use Rattle.speaker_machine.specs.Stream.{SpeakerState, Received, frame_in}
 use Rattle.speaker_run.proofs.Responded.{answers_told}
-use Rattle.speaker_run.proofs.RespondedLines.{answers_are_frames, sided, taken_shows}
+use Rattle.speaker_run.proofs.RespondedLines.{answers_are_frames, sided, taken_shows, watch_as_lines}
 use Rattle.speaker_run.proofs.RespondedShown.{IsLaned, events_of_first, laned}
 use Rattle.speaker_run.proofs.ShownSteps.{IsSided, frame_step}
-use Rattle.speaker_run.specs.ResponderClauses.{AnswersWhatIsTaken}
-use Rattle.speaker_run.specs.Responding.{AnswersItem, AreAnswered, answer_in, answer_octets, seen_in, watch_events}
+use Rattle.speaker_run.specs.ResponderClauses.{AnswersWhatIsTaken, EachAnswers, RespondsRightly, answering}
+use Rattle.speaker_run.specs.Responding.{AnswersItem, AreAnswered, answer_in, answer_octets, seen_in, shown_rules, unshown, watch_events}
+use Rattle.lane_drive.specs.Clauses.{WritesOf}
+use Rattle.speaker_laws.specs.Clauses.{begun_by}
+use Rattle.speaker_laws.proofs.Right.{right_by}
 
 -- of two beginnings of one list, as many first elements are the same
 takes_same : {A : Type 0} (n : ℕ) (xs ys zs : List A) → IsPrefix xs zs → IsPrefix ys zs → n ≤ length xs → n ≤ length ys → take n xs ≡ take n ys
@@ -126,3 +129,50 @@ module _ (start : SpeakerState) where
         interface = ap (λ (r : Received). r.interface) (says start by.events last.low last.seen last.item item own answered is);
         right = rw (sees, octets, sym same) own.answered;
       }
+
+-- ---- of items that are taken, behind those before each
+-- the first answers are those to the first frames
+answered_front : (start : SpeakerState) (events : List Event) (low : ℕ) (items front rest : List Item) → AreAnswered start events low items (front ++ rest)
+    → (first : List Item) × IsPrefix first items × AreAnswered start events low first front
+answered_front start events low items [] rest answered = ([], (items, refl), tt)
+answered_front start events low [] (one ∷ front) rest answered = absurd answered
+answered_front start events low (item ∷ items) (one ∷ front) rest (seen, own, more) =
+    let (first, (others, is), answered) = answered_front start events seen items front rest more in
+    (item ∷ first, (others, ap (λ (l : List Item). item ∷ l) is), (seen, own, answered))
+
+module _ (start : SpeakerState) (first second : Option (List ℕ)) where
+  begins_front : (front rest : List Item) → (answering start first).Begins first second (front ++ rest) → (answering start first).Begins first second front
+  begins_front front rest (firsts, seconds) =
+      let of_lane = λ (lane : Lane). filter-append (λ item. is_lane lane item.lane) front rest in
+      let by = seconds.answered in
+      let (items, less, answered) = answered_front start by.events 0 seconds.items (items_of Second front) (items_of Second rest)
+      (subst (AreAnswered start by.events 0 seconds.items) (of_lane Second) by.answered) in (
+        begins_less belongs_to First first (items_of First (front ++ rest)) (items_of First front) (items_of First rest, of_lane First) firsts,
+        record {
+          items = items;
+          begins = begins_less belongs_to Second second seconds.items items (less.0, sym less.1) seconds.begins;
+          answered = record { events = by.events; shown = by.shown; answered = answered };
+        },
+      )
+
+pub each_answers : (start : SpeakerState) (first second : Option (List ℕ)) (items : List Item) → (answering start first).Begins first second items
+    → EachAnswers start first second items
+each_answers start first second items begins bytes told earlier later item split replies s t entries_before taken answered entries goes is =
+    let front : (answering start first).Begins first second (earlier ++ item ∷ []) =
+    begins_front start first second (earlier ++ item ∷ []) later
+    (subst ((answering start first).Begins first second) (split ∙ sym (append_assoc earlier (item ∷ []) later)) begins) in
+    answers_taken start bytes second earlier item replies s t entries_before answered entries
+    (subst (λ (left : Option (List ℕ)). (answering start left).Begins left second (earlier ++ item ∷ [])) told front) taken goes is
+
+-- ---- what was written is right
+pub responds_rightly : {Z : Type 0} → (words : List (String Z)) (first second left before after : Option (List ℕ))
+    → WritesOf (answering (begun_by words) first) shown_rules (unshown (begun_by words)) first second left before after
+    → RespondsRightly words first second left before after
+responds_rightly words first second left before after written =
+    let lines = watch_as_lines (begun_by words) first second written.items written.replies written.state written.told written.begin written.taken in
+    record {
+      written = written;
+      as_lines = lines;
+      right = right_by words lines.lines;
+      answers = each_answers (begun_by words) first second written.items written.begin;
+    }

@@ -11,3 +11,4 @@ pub mod ShownRun
 pub mod ShownSteps
 pub mod ShownTaken
 pub mod LaneEnds
+pub mod LanesRight

@@ -17,8 +17,9 @@ use Rattle.lane_run.specs.Outside.{SourceState, lane_state, outside}
 use Rattle.lane_run.specs.Waiting.{MayBeAwaited}
 use Rattle.line_run.specs.Clauses.{CanPass}
 use Rattle.speaker_machine.specs.Lanes.{belongs_to, lane_rules, name_of}
-use Rattle.speaker_machine.specs.Stream.{IsCause}
+use Rattle.speaker_machine.specs.Stream.{IsCause, SpeakerState}
 use Rattle.speaker_laws.specs.Clauses.{begun_by, lanes_of, plain_lanes_of}
+use Rattle.speaker_laws.specs.LaneClauses.{AreRightAsLines}
 
 -- so it is of the two files that the words name
 abbrev pub OverLanes : {Z : Type 0} → List (String Z) → (LaneNames → Type 0) → Type 0
@@ -50,31 +51,30 @@ LanesMayDrop words may_drop rt input written faults out =
 abbrev pub LanesMayOpen : {Z F : Type 0} → List (String Z) → (F → List ℕ → Type 0) → (F → F → List ℕ → Type 0) → F → Type 0
 LanesMayOpen words may_open Opens unopened = OverLanes words (λ files. MayBeOpened may_open Opens unopened files.first files.second)
 
--- how the run ended, once both files are open
-abbrev pub EndsLanes : {Z K : Type 0} → List (String Z) → Status → (List ℕ → Option (List ℕ)) → (List ℕ → Bool)
-    → (seen seen' : FilesState) (input input' : SourceState) → (K → Option (List ℕ)) → (K → ℕ) → K → K → Type 0
-EndsLanes words status bytes safe seen seen' input input' written faults out out' =
-    WithoutResponder words (λ files. drive.AtEnd belongs_to lane_rules (begun_by words) files.first files.second seen seen'
-    (opened bytes safe files.first) (opened bytes safe files.second) input input' (written out) (written out') (faults out) (faults out') status)
+-- How the run ended, once both files are open; where it is done, all that both carry was taken, and just its text was written; and where each line of
+-- both can be applied, in whatever order the events of both come, and no count of faults rises, it is done, but for want of memory.
+pub record OwesLanes (start : SpeakerState) (files : LaneNames) (status : Status) (bytes : List ℕ → Option (List ℕ)) (safe : List ℕ → Bool)
+    (seen seen' : FilesState) (input input' : SourceState) (before after : Option (List ℕ)) (writes writes' : ℕ) : Type 0 where
+  pub ends : drive.AtEnd belongs_to lane_rules start files.first files.second seen seen' (opened bytes safe files.first) (opened bytes safe files.second)
+      input input' before after writes writes' status
+  pub done : drive.AtDone belongs_to lane_rules start (bytes files.first) (bytes files.second) status input.left input'.left before after
+  pub complete : can_be_done.IsComplete belongs_to lane_rules start (bytes files.first) (bytes files.second) status seen seen' input.left
+      input.faults input'.faults writes writes'
 
--- where it is done, all that both files carry was taken, and just its text was written
-abbrev pub LanesDone : {Z K : Type 0} → List (String Z) → Status → (List ℕ → Option (List ℕ)) → (input input' : SourceState) → (K → Option (List ℕ)) → K → K
-    → Type 0
-LanesDone words status bytes input input' written out out' = WithoutResponder words (λ files. drive.AtDone belongs_to lane_rules (begun_by words)
-    (bytes files.first) (bytes files.second) status input.left input'.left (written out) (written out'))
+abbrev pub LanesOwe : {Z K : Type 0} → List (String Z) → Status → (List ℕ → Option (List ℕ)) → (List ℕ → Bool) → (seen seen' : FilesState)
+    (input input' : SourceState) → (K → Option (List ℕ)) → (K → ℕ) → K → K → Type 0
+LanesOwe words status bytes safe seen seen' input input' written faults out out' = WithoutResponder words
+    (λ files. OwesLanes (begun_by words) files status bytes safe seen seen' input input' (written out) (written out') (faults out) (faults out'))
 
--- however it ends, a beginning of the text of some items was written, and they are of each file a beginning of what it carries
-abbrev pub LanesWriteOnly : {Z K : Type 0} → List (String Z) → (List ℕ → Option (List ℕ)) → (left : Option (List ℕ)) → (K → Option (List ℕ)) → K → K → Type 0
-LanesWriteOnly words bytes left written out out' = WithoutResponder words (λ files. drive.OnlyWrites belongs_to lane_rules (begun_by words)
-    (bytes files.first) (bytes files.second) left (written out) (written out'))
+-- However it ends, a beginning of the text of some items was written, which are of each file a beginning of what it carries; and they are right as
+-- lines of one stream.
+pub record WritesItemsRightly {Z : Type 0} (words : List (String Z)) (first second left before after : Option (List ℕ)) : Type 0 where
+  pub written : drive.OnlyWrites belongs_to lane_rules (begun_by words) first second left before after
+  pub right : AreRightAsLines words written.items written.state written.told
 
--- where each line of both files can be applied, in whatever order the events of both come, and no count of faults rises, the run is done, but for want
--- of memory
-abbrev pub LanesComplete : {Z : Type 0} → List (String Z) → Status → (List ℕ → Option (List ℕ))
-    → (seen seen' : FilesState) (input input' : SourceState) (writes writes' : ℕ) → Type 0
-LanesComplete words status bytes seen seen' input input' writes writes' =
-    WithoutResponder words (λ files. can_be_done.IsComplete belongs_to lane_rules (begun_by words)
-    (bytes files.first) (bytes files.second) status seen seen' input.left input.faults input'.faults writes writes')
+abbrev pub LanesWriteRightly : {Z K : Type 0} → List (String Z) → (List ℕ → Option (List ℕ)) → (left : Option (List ℕ)) → (K → Option (List ℕ)) → K → K → Type 0
+LanesWriteRightly words bytes left written out out' = WithoutResponder words
+    (λ files. WritesItemsRightly words (bytes files.first) (bytes files.second) left (written out) (written out'))
 
 -- a lane isn't opened exactly where the opening of its file failed, and then nothing was read; else no opening failed
 abbrev pub AtLaneOpenFault : {Z : Type 0} → List (String Z) → Status → (seen seen' : FilesState) → Type 0
@@ -85,13 +85,10 @@ abbrev pub AtLaneReadFault : {Z : Type 0} → List (String Z) → Status → (se
 AtLaneReadFault words status seen seen' reads reads' =
     OverLanes words (λ files. drive.AtReadFault name_of files.first files.second status seen seen' reads reads')
 
--- of no other file an opening or a reading failed
-abbrev pub LeavesOtherFiles : {Z : Type 0} → List (String Z) → (seen seen' : FilesState) → Type 0
-LeavesOtherFiles words seen seen' = OverLanes words (λ files. drive.LeavesOthers files.first files.second seen seen')
-
--- nothing is read of the input
-abbrev pub LeavesInput : {Z : Type 0} → List (String Z) → (input input' : SourceState) → Type 0
-LeavesInput words input input' = OverLanes words (λ files. drive.LeavesInput input input')
+-- nothing is read of the input, and of no other file an opening or a reading failed
+abbrev pub LeavesOthers : {Z : Type 0} → List (String Z) → (input input' : SourceState) (seen seen' : FilesState) → Type 0
+LeavesOthers words input input' seen seen' =
+    OverLanes words (λ files. drive.LeavesInput input input' × drive.LeavesOthers files.first files.second seen seen')
 
 abbrev pub IsLane : LaneName → Type 0
 IsLane lane = (lane ≡ Watch) ⊎ (lane ≡ Frame)

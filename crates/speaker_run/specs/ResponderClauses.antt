@@ -31,6 +31,7 @@ use Rattle.speaker_machine.specs.declared.transcript.TranscriptEntry.{Transcript
 use Rattle.speaker_machine.specs.Lanes.{belongs_to}
 use Rattle.speaker_machine.specs.Stream.{SpeakerState, Received, frame_in, speaker_rules}
 use Rattle.speaker_laws.specs.Clauses.{begun_by, responder_lanes_of}
+use Rattle.speaker_laws.specs.Right.{IsRightRun}
 use Rattle.speaker_run.specs.LaneClauses.{opened}
 use Rattle.speaker_run.specs.Responding.{AreAnswered, IsAnsweredBy, ShownEntry, Tells, Seen, ShownState, shown_rules, told_answer, unshown, watch_events}
 use Rattle.speaker_run.specs.Responding.{answer_octets, seen_in, answer_in, view_after_all}
@@ -146,9 +147,6 @@ WatchIsAsLines start = (first second : Option (List ℕ)) (items : List Item) (r
     (told : List (Told ShownEntry)) → (answering start first).Begins first second items
     → AreItemsTaken shown_rules items replies (unshown start) t told → IsAsLines start items t told
 
-abbrev pub ResponderIsAsLines : {Z : Type 0} → List (String Z) → Type 0
-ResponderIsAsLines words = WatchIsAsLines (begun_by words)
-
 -- what a frame is answered with is told: the number of events, and the answer
 abbrev pub AnswersAreTold : Type 0
 AnswersAreTold = (seen : ℕ) (answer : List ℕ) → seen < 2 ^ 64
@@ -177,10 +175,22 @@ AnswersWhatIsTaken start = (bytes : List ℕ) (second : Option (List ℕ)) (item
     → (answering start (Some bytes)).Begins (Some bytes) second (items ++ item ∷ []) → AreItemsTaken shown_rules items replies (unshown start) s told
     → shown_rules.take s item ≡ Goes t entries → frame_in item.event ≡ Some answered → AnswersBehind start second items item answered entries
 
-abbrev pub ResponderAnswers : {Z : Type 0} → List (String Z) → Type 0
-ResponderAnswers words = AnswersWhatIsTaken (begun_by words)
+-- So it is of each of these items that is a frame's, behind those before it.
+abbrev pub EachAnswers : SpeakerState → (first second : Option (List ℕ)) → List Item → Type 0
+EachAnswers start first second items = (bytes : List ℕ) → first ≡ Some bytes → (earlier later : List Item) (item : Item) → items ≡ earlier ++ item ∷ later
+    → (replies : List Line) (s t : ShownState) (told : List (Told ShownEntry)) → AreItemsTaken shown_rules earlier replies (unshown start) s told
+    → (answered : Received) (entries : List ShownEntry) → shown_rules.take s item ≡ Goes t entries → frame_in item.event ≡ Some answered
+    → AnswersBehind start second earlier item answered entries
 
--- So is each run with a responder that the words begin, whatever its items.
-pub record ResponderTells {Z : Type 0} (words : List (String Z)) : Type 0 where
-  pub as_lines : ResponderIsAsLines words
-  pub answers : ResponderAnswers words
+-- However it ends, a beginning of the text of some items was written. The watched ones are right as lines of one stream, just their events are published,
+-- and where the watched file tells its bytes each answer is told as one by events that were taken before it.
+pub record RespondsRightly {Z : Type 0} (words : List (String Z)) (first second left before after : Option (List ℕ)) : Type 0 where
+  pub written : drive.WritesOf (answering (begun_by words) first) shown_rules (unshown (begun_by words)) first second left before after
+  pub as_lines : IsAsLines (begun_by words) written.items written.state written.told
+  pub right : IsRightRun words as_lines.lines
+  pub answers : EachAnswers (begun_by words) first second written.items
+
+abbrev pub ResponderWritesRightly : {Z K : Type 0} → List (String Z) → (List ℕ → Option (List ℕ)) → (left : Option (List ℕ)) → (K → Option (List ℕ)) → K → K
+    → Type 0
+ResponderWritesRightly words bytes left written out out' = WithResponder words
+    (λ files. RespondsRightly words (bytes files.first) (bytes files.second) left (written out) (written out'))

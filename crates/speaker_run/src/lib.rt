@@ -2,7 +2,6 @@
 #![tactic(auto)]
 
 mod beside;
-mod laws;
 mod responder;
 mod run;
 mod shown;

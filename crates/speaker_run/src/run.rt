@@ -7,23 +7,20 @@ ghost use Rattle.line_run.specs.Clauses.{AtReadFault, AtWriteFault, RunOwes};
 ghost use Rattle.command_options.specs.Options.{texts_of};
 ghost use Rattle.speaker_words.specs.Words.{AreKnown};
 ghost use Rattle.speaker_machine.specs.Stream.{IsCause, speaker_rules};
-ghost use Rattle.speaker_laws.specs.Clauses.{begun_by, SpeaksForNamed, TellsWhatIsAnnounced, TellsWhatChanges};
-ghost use Rattle.speaker_laws.specs.Clauses.{SendsWhatIsMeant, TellsPeersTheirRoutes, WritesWhatIsAnnounced, WritesPeersTheirRoutes};
-ghost use Rattle.speaker_laws.specs.LaneClauses.{LanesAreAsLines, LanesTellWhatIsAnnounced, LanesTellWhatChanges, LanesSendWhatIsMeant, LanesMakeRoutes};
+ghost use Rattle.speaker_laws.specs.Clauses.{begun_by};
+ghost use Rattle.speaker_laws.specs.Right.{WritesRightly};
 ghost use Rattle.speaker_run.specs.Clauses.{InStream, MayAskAnswered, CanEnd};
-ghost use Rattle.speaker_run.specs.LaneClauses.{EndsLanes, LanesMayOpen, LanesMayWait, LanesMayDrop, LanesComplete, LanesDone, LanesWriteOnly};
-ghost use Rattle.speaker_run.specs.LaneClauses.{AtLaneOpenFault, AtLaneReadFault, LeavesOtherFiles, LeavesInput, LanesCanEnd};
-ghost use Rattle.speaker_run.specs.ResponderClauses.{AnswersAreTold, ResponderAnswers, ResponderIsAsLines, ResponderMayDrop, ResponderMayWait, ResponderOwes};
+ghost use Rattle.speaker_run.specs.LaneClauses.{LanesMayOpen, LanesMayWait, LanesMayDrop, LanesOwe, LanesCanEnd, LanesWriteRightly};
+ghost use Rattle.speaker_run.specs.LaneClauses.{AtLaneOpenFault, AtLaneReadFault, LeavesOthers};
+ghost use Rattle.speaker_run.specs.ResponderClauses.{ResponderMayDrop, ResponderMayWait, ResponderOwes, ResponderWritesRightly};
 
 use crate::beside::run_responder;
-use crate::laws::responder_tells;
 use crate::stream::stream_speaker;
 use kube_model::Status;
 use lane_drive::run_lane_files;
 use lane_run::{MailWait, PacedWait, WatchedFiles};
 use line_run::PacedSource;
 use mlb_edge::Sink;
-use speaker_laws::{lanes_tell, runs_tell};
 use speaker_machine::Speaker;
 use speaker_words::speaker_words;
 use std::alloc::Global;
@@ -67,7 +64,6 @@ pub fn run_speaker<
     ensures no_file { InStream words.now (files.new ≡ files.old) }
     ensures can_end { InStream words.now (CanEnd result) }
     ensures usage { (result ≡ Status.Usage) ↔ (¬ (AreKnown (texts_of words.now))) }
-    ensures named { SpeaksForNamed words.now }
     ensures unused { result ≡ Status.Usage → (input.new ≡ input.old) × (out.new ≡ out.old) }
 
     // A fault comes only where its count rose.
@@ -78,31 +74,19 @@ pub fn run_speaker<
     ensures run { InStream words.now (AreKnown (texts_of words.now) → RunOwes speaker_rules IsCause (begun_by words.now) result
         (S.left input.old) (S.left input.new) (K.written out.old) (K.written out.new)) }
 
-    // After each line of a run the addresses with an announce line and no later withdraw line are exactly those that the node of the
-    // words announces by what was shown.
-    ensures told { TellsWhatIsAnnounced words.now }
-
-    // At each line of a run just what its event changes is told: a withdraw line for each address that the node announces no more, and behind
-    // these an announce line for each that it announces from now on, each address once, IPv4 before IPv6 and each family ascending.
-    ensures changes { TellsWhatChanges words.now }
-
-    // At each line of a run just the frames are sent that are meant of its event, by what was shown then: of a received frame its answer by the
-    // interface of the words by which it came, where the node listens there for what is asked; of others, with each announce line, a gratuitous
-    // ARP or an unsolicited Neighbor Advertisement by each interface on which the node listens for the address.
-    ensures sends { SendsWhatIsMeant words.now }
-
-    // After each line of a run, with a next hop, what a peer of the configuration in force was told since it came, or since its AS
-    // numbers last changed, makes its routes of the empty table.
-    ensures routes { TellsPeersTheirRoutes words.now }
-
-    // The same of the lines as they are written: the addresses with an announce line and no withdraw line behind it, and the messages that the
-    // update lines for a peer carry in hexadecimal.
-    ensures told_written { WritesWhatIsAnnounced words.now }
-    ensures routes_written { WritesPeersTheirRoutes words.now }
+    // Over any input at all a beginning of the text of its lines was written, and their run is right: it is that of what the words say. After each
+    // line that is taken the addresses with an announce line and no later withdraw line are exactly those that the node announces by what was
+    // shown; and, with a next hop, what a peer of the configuration in force was told since it came, or since its AS numbers last changed, makes its
+    // routes of the empty table. At each line just what its event changes is told, and just the frames are sent that are meant of it. The lines are
+    // those of the input, where the source tells its bytes.
+    ensures only { InStream words.now (AreKnown (texts_of words.now) → WritesRightly words.now
+        (S.left input.old) (K.written out.old) (K.written out.new)) }
 
     // Over two lane files: how the run ended, once both are open. The items of both are taken, each file's in its order, and of each the
     // line that tells of it is written, and then what it comes to.
-    ensures lanes { EndsLanes words.now result (F.bytes files.old) (F.safe files.old)
+    // Where it is done all that both carry was taken, and just its text was written; and where all can be applied in whatever order it comes, and
+    // no count of faults rises, it is done, but for want of memory.
+    ensures lanes { LanesOwe words.now result (F.bytes files.old) (F.safe files.old)
         (files_state (F.failed_opens files.old) (F.failed_reads files.old))
         (files_state (F.failed_opens files.new) (F.failed_reads files.new))
         (source_state (S.left input.old) (S.name input.old) (S.faults input.old))
@@ -110,28 +94,9 @@ pub fn run_speaker<
         K.written K.faults out.old out.new }
     ensures lane_can_end { LanesCanEnd words.now result }
 
-    // Where it is done all that both files carry was taken, and just its text was written; and however it ends, a beginning of the text
-    // of some items, which are of each file a beginning of what it carries.
-    ensures lanes_done { LanesDone words.now result (F.bytes files.old)
-        (source_state (S.left input.old) (S.name input.old) (S.faults input.old))
-        (source_state (S.left input.new) (S.name input.new) (S.faults input.new))
-        K.written out.old out.new }
-    ensures lanes_only { LanesWriteOnly words.now (F.bytes files.old) (S.left input.old) K.written out.old out.new }
-
-    // Whatever items are taken, there are lines with their events, one for each, that are taken so in one stream. So the clauses `told`,
-    // `changes`, `sends` and `routes`, which speak of any lines, hold of what is told over lanes too.
-    ensures lanes_as_lines { LanesAreAsLines words.now }
-    ensures lanes_told { LanesTellWhatIsAnnounced words.now }
-    ensures lanes_changes { LanesTellWhatChanges words.now }
-    ensures lanes_sends { LanesSendWhatIsMeant words.now }
-    ensures lanes_routes { LanesMakeRoutes words.now }
-
-    // Where all can be applied in whatever order it comes, and no count of faults rises, the run is done, but for want of memory.
-    ensures lanes_complete { LanesComplete words.now result (F.bytes files.old)
-        (files_state (F.failed_opens files.old) (F.failed_reads files.old))
-        (files_state (F.failed_opens files.new) (F.failed_reads files.new))
-        (source_state (S.left input.old) (S.name input.old) (S.faults input.old))
-        (source_state (S.left input.new) (S.name input.new) (S.faults input.new)) (K.faults out.old) (K.faults out.new) }
+    // However it ends, a beginning of the text of some items was written, which are of each file a beginning of what it carries; and there are
+    // lines with their events, one for each, that are taken so in one stream, and whose run is right, as above.
+    ensures lanes_only { LanesWriteRightly words.now (F.bytes files.old) (S.left input.old) K.written out.old out.new }
 
     // With a responder: how the run ended, what was taken and written, and when it is done. The items of the watched lane are its events, and those of
     // the frame lane the answers to its frames, in their order: each says by how many of the first events of the watched lane it was given, never
@@ -144,14 +109,10 @@ pub fn run_speaker<
         (source_state (S.left input.new) (S.name input.new) (S.faults input.new))
         K.written K.faults out.old out.new }
 
-    // What is told of an answer is what the item has; and whatever items are taken, there are lines with the watched events, one for each, that are taken
-    // so in one stream. So the clauses `told`, `changes`, `sends` and `routes` hold of what is told of the watched objects. The view by which addresses
-    // are announced is that after just the events that are published.
-    ensures answers { AnswersAreTold }
-    ensures responder_as_lines { ResponderIsAsLines words.now }
-
-    // Where the watched file tells its bytes, an answer that is taken is told as one by the events of items that were taken before it.
-    ensures answers_taken { ResponderAnswers words.now }
+    // However it ends, a beginning of the text of some items was written. The watched ones are right as lines of one stream, and by the view after just
+    // the events that are published addresses are announced. Where the watched file tells its bytes, each answer is told as one by the events of items
+    // that were taken before it.
+    ensures responder_only { ResponderWritesRightly words.now (F.bytes files.old) (S.left input.old) K.written out.old out.new }
 
     // A lane isn't opened exactly where the opening of its file failed, and then nothing is read or written. It isn't read only where the
     // count of failed readings of its file rose.
@@ -164,17 +125,13 @@ pub fn run_speaker<
     ensures lane_unopened { (lane : LaneName) → result ≡ Status.OpenFault lane → (input.new ≡ input.old) × (out.new ≡ out.old) }
 
     // Nothing of the input is read, and of no other file an opening or a reading failed. No file's bytes change.
-    ensures lane_unheard { LeavesInput words.now
+    ensures lane_others { LeavesOthers words.now
         (source_state (S.left input.old) (S.name input.old) (S.faults input.old))
-        (source_state (S.left input.new) (S.name input.new) (S.faults input.new)) }
-    ensures lane_others { LeavesOtherFiles words.now
+        (source_state (S.left input.new) (S.name input.new) (S.faults input.new))
         (files_state (F.failed_opens files.old) (F.failed_reads files.old))
         (files_state (F.failed_opens files.new) (F.failed_reads files.new)) }
     ensures bytes { (file : List ℕ) → F.bytes files.new file ≡ F.bytes files.old file }
 {
-    runs_tell(words);
-    lanes_tell(words);
-    responder_tells(words);
     let Some(said) = speaker_words(words) else {
         return Status::Usage;
     };

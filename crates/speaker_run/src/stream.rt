@@ -4,13 +4,13 @@ ghost use Rattle.line_run.specs.Clauses.{AtReadFault, AtWriteFault, RunOwes};
 ghost use Rattle.command_options.specs.Options.{texts_of};
 ghost use Rattle.speaker_words.specs.Words.{AreKnown};
 ghost use Rattle.speaker_machine.specs.Stream.{IsCause, speaker_rules};
-ghost use Rattle.speaker_laws.specs.Clauses.{begun_by, lanes_of, RunsTell};
+ghost use Rattle.speaker_laws.specs.Clauses.{begun_by, lanes_of};
+ghost use Rattle.speaker_laws.specs.Right.{WritesRightly};
 ghost use Rattle.speaker_run.specs.Clauses.{InStream, MayAskAnswered, CanEnd};
 
 use kube_model::Status;
 use line_run::{PacedSource, run_machine};
 use mlb_edge::Sink;
-use speaker_laws::runs_tell;
 use speaker_machine::Speaker;
 use speaker_words::speaker_words;
 use std::alloc::Global;
@@ -41,10 +41,10 @@ pub fn stream_speaker<S: PacedSource<K>, K: Sink>(
     ensures run { InStream words.now (AreKnown (texts_of words.now) → RunOwes speaker_rules IsCause (begun_by words.now) result
         (S.left input.old) (S.left input.new) (K.written out.old) (K.written out.new)) }
 
-    // Each run that the words begin is that of what they say, and just what is so is told and written of its lines.
-    ensures tells { RunsTell words.now }
+    // A beginning of the text of the input's lines was written, or of some where the source doesn't tell its bytes, and their run is right.
+    ensures only { InStream words.now (AreKnown (texts_of words.now) → WritesRightly words.now
+        (S.left input.old) (K.written out.old) (K.written out.new)) }
 {
-    runs_tell(words);
     let Some(said) = speaker_words(words) else {
         return Status::Usage;
     };

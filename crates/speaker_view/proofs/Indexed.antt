@@ -19,21 +19,25 @@ use Rattle.pool_config.specs.KeySets.{keys_with}
 use Rattle.kube_model.proofs.KeyLaws.{is_eq-key_cmp, key_cmp-total, key_cmp-exact, same_key-is}
 use Rattle.kube_model.specs.Keys.{key_cmp, same_key}
 use Rattle.kube_model.specs.declared.key.Key.{Key}
+use Rattle.kube_model.specs.Service.{is_handled}
 use Rattle.kube_model.specs.declared.service.Policy.{Policy}
+use Rattle.kube_model.specs.declared.service.Policy.TheVariants.{Cluster}
 use Rattle.kube_model.specs.declared.service.Service.{Service}
+use Rattle.kube_model.specs.declared.slice.Endpoint.{Endpoint}
 use Rattle.kube_model.specs.declared.slice.EndpointSlice.{EndpointSlice}
 use Rattle.object_history.specs.Cache.{Cached}
 use Rattle.versioned_map.specs.Objects.{object_at}
 use Rattle.speaker_view.specs.declared.index.Index.{Index}
 use Rattle.speaker_view.specs.Addresses.{address_cmp}
-use Rattle.speaker_view.specs.Endpoints.{announced_from, can_announce, has_usable, is_recorded_in, is_served_in}
+use Rattle.speaker_view.specs.Endpoints.{allows_balancers, announced_from, can_announce, endpoint_for, has_usable, is_recorded_in, is_served_in, node_labels, reaches}
 use Rattle.speaker_view.specs.Endpoints.{recorded_addresses, is_slice_of, serves_from, slice_serves, some_serves}
 use Rattle.speaker_view.specs.Grouped.{service_of}
 use Rattle.speaker_view.specs.Held.{objects_of}
-use Rattle.speaker_view.specs.Index.{Covers, FoundByIndex, Grows, announces_among, is_recorder, is_slice, passes, records_in}
+use Rattle.speaker_view.specs.Index.{Covers, FoundByIndex, Grows, announces_among, is_recorder, is_server, is_slice, passes, records_in}
 use Rattle.speaker_view.specs.ViewValue.{ViewValue}
 use Rattle.speaker_view.proofs.AddressOrder.{address_cmp-is, address_total, ascending-distinct, ascending-same, found-has, has-distinct, same-at}
 use Rattle.speaker_view.proofs.KeyLookups.{any-keys, passing}
+use Rattle.speaker_view.proofs.Served.{any-implies, endpoint-usable}
 
 -- ---- a key was put in, or taken out
 module _ {G K : Type 0} (R : G → G → Ordering) (S : K → K → Ordering) (old new : List (G × BTreeSet K)) (group : G) (key : K) where
@@ -64,7 +68,7 @@ module _ {G K : Type 0} (R : G → G → Ordering) (S : K → K → Ordering) (o
 -- ---- of the index
 module _ (index : Index) (services_by_address : List (AddressValue × BTreeSet Key)) (at : AddressValue) (key : Key) where
   abbrev with_recorders : Index
-  with_recorders = record { services_by_address = services_by_address; slices = index.slices }
+  with_recorders = record { services_by_address = services_by_address; servers_by_address = index.servers_by_address; slices = index.slices }
 
   -- by the order that the code compares by
   put-services_by_address : {A E : Type 0} (r : Result A E) → OnOk r (IsPut derived.cmp-value.it key_cmp index.services_by_address services_by_address at key)
@@ -77,6 +81,7 @@ module _ (index : Index) (services_by_address : List (AddressValue × BTreeSet K
   recorder-grows r put same = record {
     services_by_address = result-keeps address_cmp key_cmp index.services_by_address services_by_address at key r (put-services_by_address r put) same;
     slices = λ service k e. e;
+    servers = λ a k e. e;
   }
 
   pub recorder-has : {A E : Type 0} (r : Result A E) → OnOk r (IsPut derived.cmp-value.it key_cmp index.services_by_address services_by_address at key)
@@ -91,15 +96,45 @@ module _ (index : Index) (services_by_address : List (AddressValue × BTreeSet K
       subst (λ (R : AddressValue → AddressValue → Ordering). IsTaken R key_cmp index.services_by_address services_by_address at key) address_cmp-is taken in
       ap (λ f. f a k) by ∙ (λ i. not (same-at at a i && is_eq-key_cmp key k i) && is_recorder index a k)
 
+module _ (index : Index) (servers : List (AddressValue × BTreeSet Key)) (at : AddressValue) (key : Key) where
+  abbrev with_servers : Index
+  with_servers = record { services_by_address = index.services_by_address; servers_by_address = servers; slices = index.slices }
+
+  -- by the order that the code compares by
+  put-servers : {A E : Type 0} (r : Result A E) → OnOk r (IsPut derived.cmp-value.it key_cmp index.servers_by_address servers at key)
+      → OnOk r (IsPut address_cmp key_cmp index.servers_by_address servers at key)
+  put-servers {A} {E} r put =
+      subst (λ (R : AddressValue → AddressValue → Ordering). OnOk r (IsPut R key_cmp index.servers_by_address servers at key)) address_cmp-is put
+
+  pub server-grows : {A E : Type 0} (r : Result A E) → OnOk r (IsPut derived.cmp-value.it key_cmp index.servers_by_address servers at key)
+      → OnErr r (servers ≡ index.servers_by_address) → Grows index with_servers
+  server-grows r put same = record {
+    services_by_address = λ a k e. e;
+    slices = λ service k e. e;
+    servers = result-keeps address_cmp key_cmp index.servers_by_address servers at key r (put-servers r put) same;
+  }
+
+  pub server-has : {A E : Type 0} (r : Result A E) → OnOk r (IsPut derived.cmp-value.it key_cmp index.servers_by_address servers at key)
+      → OnOk r (is_server with_servers at key ≡ true)
+  server-has r put = result-has address_cmp key_cmp index.servers_by_address servers at key r address_total key_cmp-total (put-servers r put)
+
+  pub server-taken : IsTaken derived.cmp-value.it key_cmp index.servers_by_address servers at key
+      → (a : AddressValue) (k : Key) → is_server with_servers a k ≡ (not (same_address at a && same_key key k) && is_server index a k)
+  server-taken taken a k =
+      let by : IsTaken address_cmp key_cmp index.servers_by_address servers at key =
+      subst (λ (R : AddressValue → AddressValue → Ordering). IsTaken R key_cmp index.servers_by_address servers at key) address_cmp-is taken in
+      ap (λ f. f a k) by ∙ (λ i. not (same-at at a i && is_eq-key_cmp key k i) && is_server index a k)
+
 module _ (index : Index) (slices : List (Key × BTreeSet Key)) (service key : Key) where
   abbrev with_slices : Index
-  with_slices = record { services_by_address = index.services_by_address; slices = slices }
+  with_slices = record { services_by_address = index.services_by_address; servers_by_address = index.servers_by_address; slices = slices }
 
   pub slice-grows : {A E : Type 0} (r : Result A E) → OnOk r (IsPut key_cmp key_cmp index.slices slices service key) → OnErr r (slices ≡ index.slices)
       → Grows index with_slices
   slice-grows r put same = record {
     services_by_address = λ a k e. e;
     slices = result-keeps key_cmp key_cmp index.slices slices service key r put same;
+    servers = λ a k e. e;
   }
 
   pub slice-has : {A E : Type 0} (r : Result A E) → OnOk r (IsPut key_cmp key_cmp index.slices slices service key)
@@ -117,6 +152,19 @@ under-address index a found is key =
     ap (λ keys. is_in key_cmp keys key)
     (is ∙ ap (λ (R : AddressValue → AddressValue → Ordering). lookup (is_at (R a)) index.services_by_address) address_cmp-is)
 
+pub server-at-address : (index : Index) (a : AddressValue) (found : Option (BTreeSet Key))
+    → found ≡ lookup (is_at (derived.cmp-value.it a)) index.servers_by_address → (key : Key) → is_in key_cmp found key ≡ is_server index a key
+server-at-address index a found is key =
+    ap (λ keys. is_in key_cmp keys key)
+    (is ∙ ap (λ (R : AddressValue → AddressValue → Ordering). lookup (is_at (R a)) index.servers_by_address) address_cmp-is)
+
+-- what serves a node has a usable endpoint
+serves-ready : (policy : Policy) (node : List ℕ) (endpoints : List Endpoint) → list_any (serves_from policy node) endpoints ≡ true
+    → list_any (λ endpoint. endpoint.usable) endpoints ≡ true
+serves-ready policy node =
+    any-implies (serves_from policy node) (λ endpoint. endpoint.usable)
+    (λ (endpoint : Endpoint) e. (and_parts endpoint.usable (reaches policy node endpoint.node) e).0)
+
 -- ---- whether an endpoint slice of a service serves
 module _ (index : Index) (held : Cached) (covers : Covers index held) (ascend : IsStrictlySortedBy key_cmp (keys_of held.slices)) (key : Key) (policy : Policy)
     (node : List ℕ) where
@@ -128,7 +176,7 @@ module _ (index : Index) (held : Cached) (covers : Covers index held) (ascend : 
   among-slices found is at slice there passed =
       let parts = and_parts (is_slice_of key slice) (list_any (serves_from policy node) slice.endpoints) passed in
       let same : service_of slice ≡ key = same_key-is (service_of slice) key parts.0 in
-      let stands : is_slice index key at ≡ true = subst (λ (k : Key). is_slice index k at ≡ true) same (covers.slices at slice there) in
+      let stands : is_slice index key at ≡ true = subst (λ (k : Key). is_slice index k at ≡ true) same (covers.slices at slice there (serves-ready policy node slice.endpoints parts.1)) in
       ap (λ keys. is_in key_cmp keys at) is ∙ stands
 
   pub serves-some : (answer : Bool) (keys : BTreeSet Key) → answer ≡ list_any (λ at. passes serves (object_at key_cmp held.slices at)) keys.keys
@@ -166,19 +214,46 @@ module _ (index : Index) (v : ViewValue) (covers : Covers index v.held) (ascend 
   pub recorded-none : ((key : Key) → false ≡ is_recorder index a key) → false ≡ is_recorded_in v a
   recorded-none = found-none (λ (s : Service). has_address s.holding.addresses a) (λ s e. e)
 
-  -- whether one has a usable endpoint
+-- ---- the services that record an address and have a usable endpoint
+module _ (index : Index) (v : ViewValue) (covers : Covers index v.held) (ascend : IsStrictlySortedBy key_cmp (keys_of v.held.services))
+    (ascend_slices : IsStrictlySortedBy key_cmp (keys_of v.held.slices)) (a : AddressValue) where
+  -- of a test that passes at no others
+  module _ (test : Service → Bool) (records : (service : Service) → test service ≡ true → has_address service.holding.addresses a ≡ true)
+      (usable : (service : Service) → test service ≡ true → has_usable v service ≡ true) where
+    among-servers : (found : Option (BTreeSet Key)) → ((key : Key) → is_in key_cmp found key ≡ is_server index a key)
+        → (at : Key) (service : Service) → object_at key_cmp v.held.services at ≡ Some service → test service ≡ true → is_in key_cmp found at ≡ true
+    among-servers found is at service there passed =
+        let p = passing key_cmp-total key_cmp-exact (slice_serves service.key Cluster []) v.held.slices ascend_slices (usable service passed) in
+        let slice : EndpointSlice = p.object in
+        let parts = and_parts (is_slice_of service.key slice) (list_any (serves_from Cluster []) slice.endpoints) p.passed in
+        let of : service_of slice ≡ at = same_key-is (service_of slice) service.key parts.0 ∙ covers.own at service there in
+        is at ∙ covers.servers at service there p.key slice p.held (serves-ready Cluster [] slice.endpoints parts.1) of a (records service passed)
+
+    server-some : (answer : Bool) (keys : BTreeSet Key) → answer ≡ list_any (λ at. passes test (object_at key_cmp v.held.services at)) keys.keys
+        → ((key : Key) → contains key_cmp keys key ≡ is_server index a key) → answer ≡ list_any test (objects_of v.held.services)
+    server-some answer keys is there =
+        is ∙ any-keys key_cmp-total key_cmp-exact test v.held.services keys.keys ascend (among-servers (Some keys) there)
+
+    server-none : ((key : Key) → false ≡ is_server index a key) → false ≡ list_any test (objects_of v.held.services)
+    server-none none = any-keys key_cmp-total key_cmp-exact test v.held.services [] ascend
+        (λ at service there passed. among-servers None none at service there passed)
+
+  -- whether there is one
   abbrev served : Service → Bool
   served service = has_address service.holding.addresses a && has_usable v service
 
   served-records : (service : Service) → served service ≡ true → has_address service.holding.addresses a ≡ true
   served-records service e = (and_parts (has_address service.holding.addresses a) (has_usable v service) e).0
 
-  pub served-some : (answer : Bool) (keys : BTreeSet Key) → answer ≡ list_any (λ at. passes served (object_at key_cmp v.held.services at)) keys.keys
-      → ((key : Key) → contains key_cmp keys key ≡ is_recorder index a key) → answer ≡ is_served_in v a
-  served-some = found-some served served-records
+  served-usable : (service : Service) → served service ≡ true → has_usable v service ≡ true
+  served-usable service e = (and_parts (has_address service.holding.addresses a) (has_usable v service) e).1
 
-  pub served-none : ((key : Key) → false ≡ is_recorder index a key) → false ≡ is_served_in v a
-  served-none = found-none served served-records
+  pub served-some : (answer : Bool) (keys : BTreeSet Key) → answer ≡ list_any (λ at. passes served (object_at key_cmp v.held.services at)) keys.keys
+      → ((key : Key) → contains key_cmp keys key ≡ is_server index a key) → answer ≡ is_served_in v a
+  served-some = server-some served served-records served-usable
+
+  pub served-none : ((key : Key) → false ≡ is_server index a key) → false ≡ is_served_in v a
+  served-none = server-none served served-records served-usable
 
   -- whether one can be announced
   module _ (node : List ℕ) where
@@ -188,12 +263,18 @@ module _ (index : Index) (v : ViewValue) (covers : Covers index v.held) (ascend 
     announces-records : (service : Service) → announces service ≡ true → has_address service.holding.addresses a ≡ true
     announces-records service e = (and_parts (has_address service.holding.addresses a) (can_announce v service node) e).0
 
-    pub announces-some : (answer : Bool) (keys : BTreeSet Key) → answer ≡ list_any (λ at. passes announces (object_at key_cmp v.held.services at)) keys.keys
-        → ((key : Key) → contains key_cmp keys key ≡ is_recorder index a key) → answer ≡ announced_from v a node
-    announces-some = found-some announces announces-records
+    announces-usable : (service : Service) → announces service ≡ true → has_usable v service ≡ true
+    announces-usable service e =
+        let can = (and_parts (has_address service.holding.addresses a) (can_announce v service node) e).1 in
+        let more = (and_parts (is_handled v.class service && endpoint_for v service node) (allows_balancers (node_labels v node)) can).0 in
+        endpoint-usable v node service (and_parts (is_handled v.class service) (endpoint_for v service node) more).1
 
-    pub announces-none : ((key : Key) → false ≡ is_recorder index a key) → false ≡ announced_from v a node
-    announces-none = found-none announces announces-records
+    pub announces-some : (answer : Bool) (keys : BTreeSet Key) → answer ≡ list_any (λ at. passes announces (object_at key_cmp v.held.services at)) keys.keys
+        → ((key : Key) → contains key_cmp keys key ≡ is_server index a key) → answer ≡ announced_from v a node
+    announces-some = server-some announces announces-records announces-usable
+
+    pub announces-none : ((key : Key) → false ≡ is_server index a key) → false ≡ announced_from v a node
+    announces-none = server-none announces announces-records announces-usable
 
 -- ---- the recorded addresses
 key-by : (b more : Bool) (here there : Option (BTreeSet Key)) (key : Key) → is_in key_cmp (cond b here there) key ≡ true
@@ -214,6 +295,13 @@ has-recorded index v covers ascend a e =
     let p = passing key_cmp-total key_cmp-exact (λ (service : Service). has_address service.holding.addresses a) v.held.services ascend e in
     sym (found-has (keys_of index.services_by_address) a)
     ∙ stands-address index.services_by_address a p.key (covers.services_by_address p.key p.object p.held a p.passed)
+
+-- each recorded address stands in the index
+pub known-recorded : (index : Index) (v : ViewValue) → Covers index v.held → IsStrictlySortedBy key_cmp (keys_of v.held.services)
+    → (addresses : List AddressValue) → addresses ≡ keys_of index.services_by_address
+    → (a : AddressValue) → is_recorded_in v a ≡ true → Contains addresses a
+known-recorded index v covers ascend addresses are a e =
+    has_address-is addresses a (ap (λ (all : List AddressValue). has_address all a) are ∙ has-recorded index v covers ascend a e)
 
 any-flat_map : {X A : Type 0} (test : A → Bool) (f : X → List A) (xs : List X) → list_any test (flat_map f xs) ≡ list_any (λ x. list_any test (f x)) xs
 any-flat_map test f [] = refl
@@ -249,4 +337,7 @@ all-recorded index v covers ascend addresses are =
     ∙ sym (has-recorded_in v a))
 
 pub found-by : FoundByIndex
-found-by index v covers ascend a node keys is = announces-some index v covers ascend a node (announces_among v a node keys.keys) keys refl is
+found-by index v covers ascend a node keys is =
+    found-some index v covers ascend a (λ (s : Service). has_address s.holding.addresses a && can_announce v s node)
+    (λ (service : Service) e. (and_parts (has_address service.holding.addresses a) (can_announce v service node) e).0) (announces_among v a node keys.keys)
+    keys refl is

@@ -1,8 +1,10 @@
 pub mod AddressOrder
 pub mod Applying
+pub mod ChangedNodes
 pub mod Covering
 pub mod Indexed
 pub mod KeyLookups
+pub mod Labels
 pub mod Objects
 pub mod Owning
 pub mod Served

@@ -1,5 +1,5 @@
 -- A test of the held objects answers as before where it fails at the one that was held under the key and at the one that is now.
-use Rattle.std.proofs.Common.{◌≡◌, ℕ, Bool, true, false, cond, ◌||◌, leb, List, [], ◌∷◌, Option, Some, None}
+use Rattle.std.proofs.Common.{◌≡◌, ℕ, Bool, true, false, cond, not, eqb, ◌||◌, leb, List, [], ◌∷◌, Option, Some, None}
 use Rattle.std.proofs.Common.{Ordering, Less, Equal, Greater, is_eq, refl, ap, ◌∙◌}
 use Rattle.std.specs.Ordering.{match_ordering}
 use Rattle.std.specs.List.{list_any, Contains}
@@ -8,7 +8,7 @@ use Rattle.std.specs.Option.{option_map}
 use Rattle.std.specs.Map.{lookup, remove_entry}
 use Rattle.std.specs.BTreeMap.{insert_entry, is_at}
 use Rattle.versioned_map.specs.declared.map.Versioned.{Versioned}
-use Rattle.versioned_map.specs.Objects.{held_at, object_at, version_at, shown, expired, at_version}
+use Rattle.versioned_map.specs.Objects.{held_at, listed, object_at, version_at, shown, expired, at_version}
 use Rattle.versioned_map.proofs.HeldLaws.{held_at-expired}
 use Rattle.speaker_view.specs.Held.{objects_of}
 
@@ -62,6 +62,20 @@ module _ {K T : Type 0} (cmp : K → K → Ordering) (test : T → Bool) where
   pub any-removed : (entries : Entries) (key : K) → Fails test (object_at cmp entries key) → any (remove_entry (is_at (cmp key)) entries) ≡ any entries
   any-removed [] key old = refl
   any-removed (e ∷ entries) key old = removed_by (is_eq (cmp key e.0)) key e entries old (any-removed entries key)
+
+-- what is dropped at the end of a list fails, so a test of the objects answers as before
+module _ {K T : Type 0} (test : T → Bool) where
+  listed_by : (unlisted : Bool) (e : K × Versioned T) (rest : List (K × Versioned T)) → (unlisted ≡ true → test e.1.object ≡ false)
+      → list_any test (objects_of (cond (not unlisted) (e ∷ rest) rest)) ≡ (test e.1.object || list_any test (objects_of rest))
+  listed_by true e rest fails = rw (fails refl) refl
+  listed_by false e rest fails = refl
+
+  pub any-listed : (entries : List (K × Versioned T)) → ((e : K × Versioned T) → Contains entries e → eqb e.1.version 0 ≡ true → test e.1.object ≡ false)
+      → list_any test (objects_of (listed entries)) ≡ list_any test (objects_of entries)
+  any-listed [] fails = refl
+  any-listed (e ∷ entries) fails =
+      listed_by (eqb e.1.version 0) e (listed entries) (fails e (contains-first e entries))
+      ∙ ap (λ b. test e.1.object || b) (any-listed entries (λ x there. fails x (contains-later e entries x there)))
 
 -- where watches expire, the objects stay
 pub objects_of-expired : {K T : Type 0} (entries : List (K × Versioned T)) → objects_of (expired entries) ≡ objects_of entries

@@ -16,13 +16,13 @@ use Rattle.speaker_view.specs.Held.{objects_of}
 use Rattle.speaker_view.specs.ViewValue.{ViewValue}
 
 -- what passes the one test passes the other, so some does
-any-implies : {X : Type 0} (p q : X → Bool) → ((x : X) → p x ≡ true → q x ≡ true) → (xs : List X) → list_any p xs ≡ true → list_any q xs ≡ true
+pub any-implies : {X : Type 0} (p q : X → Bool) → ((x : X) → p x ≡ true → q x ≡ true) → (xs : List X) → list_any p xs ≡ true → list_any q xs ≡ true
 any-implies p q implies xs e =
     let some = any-found p xs e in
     any-contains q xs some.0 some.1 (implies some.0 some.2)
 
 module _ (v : ViewValue) (node : List ℕ) where
-  endpoint-usable : (service : Service) → endpoint_for v service node ≡ true → has_usable v service ≡ true
+  pub endpoint-usable : (service : Service) → endpoint_for v service node ≡ true → has_usable v service ≡ true
   endpoint-usable service =
       any-implies (slice_serves service.key service.policy node) (slice_serves service.key Cluster [])
       (λ (slice : EndpointSlice) e.

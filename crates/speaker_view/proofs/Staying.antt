@@ -1,7 +1,7 @@
 -- At an address that an event doesn't list, all stays that decides who may announce it.
 use Rattle.std.proofs.Common.{◌≡◌, ℕ, Bool, true, false, cond, ◌&&◌, leb, not, List, [], ◌∷◌, Option, Some, None}
 use Rattle.std.proofs.Common.{◌++◌, inl, inr, Contains, filter, Result, Ok, Err, refl, sym, ap, ◌∙◌, subst}
-use Rattle.std.proofs.lemmas.Bool.{or_parts, true≢false, false_from_ne_true}
+use Rattle.std.proofs.lemmas.Bool.{true≢false, false_from_ne_true}
 use Rattle.std.proofs.lemmas.List.Elements.{Contains-append_left, Contains-append_right}
 use Rattle.std.specs.List.{flat_map, list_any}
 use Rattle.std.specs.BTreeMap.{insert_entry}
@@ -15,6 +15,7 @@ use Rattle.kube_model.specs.Service.{is_handled}
 use Rattle.kube_model.specs.declared.config_fault.ConfigFault.{ConfigFault}
 use Rattle.kube_model.specs.declared.event.Event.{Event}
 use Rattle.kube_model.specs.declared.event.Event.TheVariants.{Changed, Deleted, ListEnd, Expired, Members, Frame, Ignored}
+use Rattle.kube_model.specs.declared.event.ListGroup.TheVariants as groups
 use Rattle.kube_model.specs.declared.key.Key.{Key}
 use Rattle.kube_model.specs.declared.node.Node.{Node}
 use Rattle.kube_model.specs.declared.object.Kind.TheVariants as kinds
@@ -28,21 +29,21 @@ use Rattle.pool_config.specs.Compile.{compiled}
 use Rattle.pool_config.specs.ConfigValue.{ConfigValue}
 use Rattle.pool_config.specs.declared.object_set.ObjectSet.{ObjectSet}
 use Rattle.versioned_map.specs.declared.map.Versioned.{Versioned}
-use Rattle.versioned_map.specs.Objects.{object_at, version_at}
+use Rattle.versioned_map.specs.Objects.{listed, object_at, version_at}
 use Rattle.speaker_view.specs.declared.change.ViewChange.{ViewChange}
-use Rattle.speaker_view.specs.Change.{changed_addresses, change_of, is_accepted, recorded_at, recorded_by, reaches_all}
-use Rattle.speaker_view.specs.Change.{served_at, served_by, shown_addresses, OthersStay, UnchangedAddressesStay}
+use Rattle.speaker_view.specs.Change.{changed_addresses, is_accepted, is_unlisted, recorded_at, recorded_by, served_at, served_by}
+use Rattle.speaker_view.specs.Change.{shown_addresses, unlisted_addresses, IsChangeOf, OthersStay, UnchangedAddressesStay}
 use Rattle.speaker_view.specs.Endpoints.{allows_balancers, announced_from, can_announce, endpoint_for, is_slice_of, labels_of, node_labels, slice_serves}
 use Rattle.speaker_view.specs.Held.{objects_of}
 use Rattle.speaker_view.specs.View.{note_by, view_after}
 use Rattle.speaker_view.specs.ViewValue.{ViewValue}
 use Rattle.speaker_view.proofs.AddressOrder.{has-distinct}
-use Rattle.speaker_view.proofs.Objects.{Fails, any-inserted, any-removed, any-each, objects_of-expired, object_at-expired}
+use Rattle.speaker_view.proofs.Objects.{Fails, any-each, any-inserted, any-listed, any-removed, objects_of-expired, object_at-expired}
 
 hasnt_address : (addresses : List AddressValue) (a : AddressValue) → ¬ (Contains addresses a) → has_address addresses a ≡ false
 hasnt_address addresses a none = false_from_ne_true (has_address addresses a) (λ e. none (has_address-is addresses a e))
 
-Contains-flat_map : {X A : Type 0} (f : X → List A) (xs : List X) (x : X) (y : A) → Contains xs x → Contains (f x) y → Contains (flat_map f xs) y
+pub Contains-flat_map : {X A : Type 0} (f : X → List A) (xs : List X) (x : X) (y : A) → Contains xs x → Contains (f x) y → Contains (flat_map f xs) y
 Contains-flat_map f [] x y there of_it = absurd (contains-none x there)
 Contains-flat_map f (z ∷ zs) x y there of_it = elim (contains-cons z zs x there) [
   | inl here ↦ Contains-append_left (f z) (flat_map f zs) y (subst (λ u. Contains (f u) y) (sym here) of_it)
@@ -59,49 +60,7 @@ config-stays true objects before (Ok config) is e =
 config-stays true objects before (Err fault) is e = refl
 config-stays false objects before r is e = refl
 
--- what isn't newer is passed over
-passed-over : {X : Type 0} (passed : Bool) (before after : X) → not passed ≡ false → cond passed before after ≡ before
-passed-over true before after e = refl
-passed-over false before after e = absurd (true≢false e)
-
 module _ (v : ViewValue) where
-  members-stay : (event : Event) → reaches_all v event ≡ false → (view_after event v).members ≡ v.members
-  members-stay (Changed version object) e = refl
-  members-stay (Deleted kind key) e = refl
-  members-stay (ListEnd group) e = refl
-  members-stay Expired e = refl
-  members-stay (Members names) e = absurd (true≢false e)
-  members-stay (Frame interface bytes) e = refl
-  members-stay Ignored e = refl
-
-  labels-stay : (event : Event) → reaches_all v event ≡ false → (node : List ℕ) → node_labels (view_after event v) node ≡ node_labels v node
-  labels-stay (Changed version (objects.Node shown)) e node =
-      let held : Versioned Node = record { version = version; object = shown } in
-      ap (λ nodes. labels_of (object_at name_cmp nodes node))
-      (passed-over (leb version (version_at name_cmp v.held.nodes shown.name)) v.held.nodes (insert_entry name_cmp v.held.nodes shown.name held) e)
-  labels-stay (Changed version (objects.Service service)) e node = refl
-  labels-stay (Changed version (objects.Slice slice)) e node = refl
-  labels-stay (Changed version (objects.Pool pool)) e node = refl
-  labels-stay (Changed version (objects.L2 adv)) e node = refl
-  labels-stay (Changed version (objects.Bgp adv)) e node = refl
-  labels-stay (Changed version (objects.Peer peer)) e node = refl
-  labels-stay (Changed version (objects.Community community)) e node = refl
-  labels-stay (Changed version (objects.Namespace namespace)) e node = refl
-  labels-stay (Deleted kinds.Node key) e node = absurd (true≢false e)
-  labels-stay (Deleted kinds.Service key) e node = refl
-  labels-stay (Deleted kinds.Slice key) e node = refl
-  labels-stay (Deleted kinds.Pool key) e node = refl
-  labels-stay (Deleted kinds.L2 key) e node = refl
-  labels-stay (Deleted kinds.Bgp key) e node = refl
-  labels-stay (Deleted kinds.Peer key) e node = refl
-  labels-stay (Deleted kinds.Community key) e node = refl
-  labels-stay (Deleted kinds.Namespace key) e node = refl
-  labels-stay (ListEnd group) e node = absurd (true≢false e)
-  labels-stay Expired e node = ap labels_of (object_at-expired name_cmp v.held.nodes node)
-  labels-stay (Members names) e node = absurd (true≢false e)
-  labels-stay (Frame interface bytes) e node = refl
-  labels-stay Ignored e node = refl
-
   module _ (a : AddressValue) (node : List ℕ) where
     -- the service has the address, and can be announced from the node
     abbrev announces : Service → Bool
@@ -194,54 +153,86 @@ module _ (v : ViewValue) where
         && ((is_handled v.class s && list_any (slice_serves s.key s.policy node) (slices i)) && allows_balancers (labels i)))
         (services i)
 
-    announced-stays : (event : Event) → reaches_all v event ≡ false → ¬ (Contains (changed_addresses v event) a)
+    -- what is dropped at the end of a list doesn't pass
+    services-listed : (entries : List (Key × Versioned Service)) → ¬ (Contains (flat_map (λ e. e.1.object.holding.addresses) (filter is_unlisted entries)) a)
+        → list_any announces (objects_of (listed entries)) ≡ list_any announces (objects_of entries)
+    services-listed entries none =
+        any-listed announces entries (λ e there unlisted.
+        fails e.1.object (λ recorded. none (Contains-flat_map (λ (x : Key × Versioned Service). x.1.object.holding.addresses) (filter is_unlisted entries) e a
+        (filter-keeps is_unlisted entries e there unlisted) recorded)))
+
+    slices-listed : (service : Service) → Contains (objects_of v.held.services) service → has_address service.holding.addresses a ≡ true
+        → ¬ (Contains (unlisted_addresses v groups.Endpoint) a)
+        → endpoint_for (view_after (ListEnd groups.Endpoint) v) service node ≡ endpoint_for v service node
+    slices-listed service held recorded none =
+        any-listed (slice_serves service.key service.policy node) v.held.slices (λ e there unlisted.
+        serves_not service held recorded e.1.object (λ served.
+        none (Contains-flat_map (λ (x : Key × Versioned EndpointSlice). served_by v (Some x.1.object)) (filter is_unlisted v.held.slices) e a
+        (filter-keeps is_unlisted v.held.slices e there unlisted) served)))
+
+    slices-end : ¬ (Contains (unlisted_addresses v groups.Endpoint) a)
+        → announced_from (view_after (ListEnd groups.Endpoint) v) a node ≡ announced_from v a node
+    slices-end none =
+        let w = view_after (ListEnd groups.Endpoint) v in
+        any-each (λ (s : Service). has_address s.holding.addresses a && can_announce w s node) announces (objects_of v.held.services) (λ service held.
+        same_where w service (has_address service.holding.addresses a) refl (λ recorded. slices-listed service held recorded none))
+
+    -- where the services and slices stay, so does what can be announced from a node whose labels stay
+    relabelled-stays : (w : ViewValue) → w.class ≡ v.class → w.held.services ≡ v.held.services → w.held.slices ≡ v.held.slices
+        → node_labels w node ≡ node_labels v node → announced_from w a node ≡ announced_from v a node
+    relabelled-stays w class services slices labels =
+        λ i. list_any (λ (s : Service). has_address s.holding.addresses a
+        && ((is_handled (class i) s && list_any (slice_serves s.key s.policy node) (objects_of (slices i))) && allows_balancers (labels i)))
+        (objects_of (services i))
+
+    announced-stays : (event : Event) → node_labels (view_after event v) node ≡ node_labels v node → ¬ (Contains (changed_addresses v event) a)
         → announced_from (view_after event v) a node ≡ announced_from v a node
-    announced-stays (Changed version (objects.Service service)) e none =
+    announced-stays (Changed version (objects.Service service)) same none =
         service-shown (leb version (version_at key_cmp v.held.services service.key)) version service none
-    announced-stays (Changed version (objects.Slice slice)) e none = slice-shown version slice none
-    announced-stays (Changed version (objects.Node shown)) e none =
-        let labels = labels-stay (Changed version (objects.Node shown)) e node in
-        λ i. list_any (λ (s : Service). has_address s.holding.addresses a && ((is_handled v.class s && endpoint_for v s node) && allows_balancers (labels i)))
-        (objects_of v.held.services)
-    announced-stays (Changed version (objects.Pool pool)) e none = refl
-    announced-stays (Changed version (objects.L2 adv)) e none = refl
-    announced-stays (Changed version (objects.Bgp adv)) e none = refl
-    announced-stays (Changed version (objects.Peer peer)) e none = refl
-    announced-stays (Changed version (objects.Community community)) e none = refl
-    announced-stays (Changed version (objects.Namespace namespace)) e none = refl
-    announced-stays (Deleted kinds.Service key) e none =
+    announced-stays (Changed version (objects.Slice slice)) same none = slice-shown version slice none
+    announced-stays (Changed version (objects.Node shown)) same none =
+        relabelled-stays (view_after (Changed version (objects.Node shown)) v) refl refl refl same
+    announced-stays (Changed version (objects.Pool pool)) same none = refl
+    announced-stays (Changed version (objects.L2 adv)) same none = refl
+    announced-stays (Changed version (objects.Bgp adv)) same none = refl
+    announced-stays (Changed version (objects.Peer peer)) same none = refl
+    announced-stays (Changed version (objects.Community community)) same none = refl
+    announced-stays (Changed version (objects.Namespace namespace)) same none = refl
+    announced-stays (Deleted kinds.Service key) same none =
         any-removed key_cmp announces v.held.services key (fails_held (object_at key_cmp v.held.services key) none)
-    announced-stays (Deleted kinds.Slice key) e none = slice-deleted key none
-    announced-stays (Deleted kinds.Node key) e none = absurd (true≢false e)
-    announced-stays (Deleted kinds.Pool key) e none = refl
-    announced-stays (Deleted kinds.L2 key) e none = refl
-    announced-stays (Deleted kinds.Bgp key) e none = refl
-    announced-stays (Deleted kinds.Peer key) e none = refl
-    announced-stays (Deleted kinds.Community key) e none = refl
-    announced-stays (Deleted kinds.Namespace key) e none = refl
-    announced-stays (ListEnd group) e none = absurd (true≢false e)
-    announced-stays Expired e none = expired-stays
-    announced-stays (Members names) e none = absurd (true≢false e)
-    announced-stays (Frame interface bytes) e none = refl
-    announced-stays Ignored e none = refl
+    announced-stays (Deleted kinds.Slice key) same none = slice-deleted key none
+    announced-stays (Deleted kinds.Node key) same none = relabelled-stays (view_after (Deleted kinds.Node key) v) refl refl refl same
+    announced-stays (Deleted kinds.Pool key) same none = refl
+    announced-stays (Deleted kinds.L2 key) same none = refl
+    announced-stays (Deleted kinds.Bgp key) same none = refl
+    announced-stays (Deleted kinds.Peer key) same none = refl
+    announced-stays (Deleted kinds.Community key) same none = refl
+    announced-stays (Deleted kinds.Namespace key) same none = refl
+    announced-stays (ListEnd groups.Config) same none = relabelled-stays (view_after (ListEnd groups.Config) v) refl refl refl same
+    announced-stays (ListEnd groups.Service) same none = services-listed v.held.services none
+    announced-stays (ListEnd groups.Endpoint) same none = slices-end none
+    announced-stays Expired same none = expired-stays
+    announced-stays (Members names) same none = refl
+    announced-stays (Frame interface bytes) same none = refl
+    announced-stays Ignored same none = refl
 
 pub unchanged_addresses_stay : UnchangedAddressesStay
-unchanged_addresses_stay v event e a unlisted =
-    let parts = or_parts (is_accepted (note_by v event)) (reaches_all v event) e in
+unchanged_addresses_stay v event change is unset a unlisted =
     let held = objects_after (Watched event) v.held.objects in
     let none : ¬ (Contains (changed_addresses v event) a) = λ there.
-    unlisted (has_address-is (change_of v event).addresses a
-    (has-distinct (changed_addresses v event) a ∙ has_address-from (changed_addresses v event) a there)) in
+    unlisted (has_address-is change.addresses a
+    (ap (λ (addresses : List AddressValue). has_address addresses a) is.addresses
+    ∙ has-distinct (changed_addresses v event) a ∙ has_address-from (changed_addresses v event) a there)) in
     record {
       class = refl;
-      members = members-stay v event parts.1;
-      config = config-stays (compiles v.held.objects v.held.config_ended (Watched event)) held v.held.config (compiled held) refl parts.0;
-      labels = labels-stay v event parts.1;
-      announced = λ node. announced-stays v a node event parts.1 none;
+      config = config-stays (compiles v.held.objects v.held.config_ended (Watched event)) held v.held.config (compiled held) refl
+          (sym is.all ∙ unset);
+      members = λ node other. (is.nodes.others node other).member;
+      labels = λ node other. (is.nodes.others node other).labels;
+      announced = λ node other. announced-stays v a node event (is.nodes.others node other).labels none;
     }
 
--- so it is where the change is that of the event
-pub others-stay : (v w : ViewValue) (event : Event) (change : ViewChange) → w ≡ view_after event v → change ≡ change_of v event → OthersStay v w change
+-- so it is where the view after is that of the event
+pub others-stay : (v w : ViewValue) (event : Event) (change : ViewChange) → w ≡ view_after event v → IsChangeOf v event change → OthersStay v w change
 others-stay v w event change after is =
-    subst (λ (u : ViewValue). OthersStay v u change) (sym after)
-    (subst (λ (c : ViewChange). OthersStay v (view_after event v) c) (sym is) (unchanged_addresses_stay v event))
+    subst (λ (u : ViewValue). OthersStay v u change) (sym after) (unchanged_addresses_stay v event change is)

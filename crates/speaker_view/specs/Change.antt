@@ -1,11 +1,12 @@
 -- What an event changes of what nodes announce.
-use Rattle.std.specs.Prelude.{◌≡◌, ℕ, Bool, true, false, ◌||◌, if◌then◌else◌, List, [], ◌++◌, filter, Contains, Option, Some, None}
+use Rattle.std.specs.Prelude.{◌≡◌, ◌↔◌, ℕ, Bool, true, false, ◌==◌, if◌then◌else◌, List, [], ◌++◌, filter, Contains, Option, Some, None}
 use Rattle.std.specs.List.{flat_map}
 use Rattle.ip_ranges.specs.Values.{AddressValue}
-use Rattle.kube_labels.specs.Names.{name_cmp}
 use Rattle.kube_model.specs.Keys.{key_cmp}
 use Rattle.kube_model.specs.declared.event.Event.{Event}
 use Rattle.kube_model.specs.declared.event.Event.TheVariants.{Changed, Deleted, ListEnd, Expired, Members, Frame, Ignored}
+use Rattle.kube_model.specs.declared.event.ListGroup.{ListGroup}
+use Rattle.kube_model.specs.declared.event.ListGroup.TheVariants as groups
 use Rattle.kube_model.specs.declared.key.Key.{Key}
 use Rattle.kube_model.specs.declared.object.Kind.{Kind}
 use Rattle.kube_model.specs.declared.object.Kind.TheVariants as kinds
@@ -16,56 +17,21 @@ use Rattle.kube_model.specs.declared.slice.EndpointSlice.{EndpointSlice}
 use Rattle.object_cache.specs.declared.change.TakeNote.{TakeNote}
 use Rattle.object_cache.specs.declared.change.TakeNote.TheVariants.{Quiet, Accepted, Refused}
 use Rattle.pool_config.specs.KeySets.{keys_with}
+use Rattle.versioned_map.specs.declared.map.Versioned.{Versioned}
 use Rattle.versioned_map.specs.Objects.{is_newer, object_at}
 use Rattle.speaker_view.specs.declared.change.ViewChange.{ViewChange}
 use Rattle.speaker_view.specs.Addresses.{address_cmp}
 use Rattle.speaker_view.specs.Endpoints.{announced_from, is_slice_of, node_labels}
 use Rattle.speaker_view.specs.Held.{objects_of}
+use Rattle.speaker_view.specs.Nodes.{AreChangedNodes}
 use Rattle.speaker_view.specs.View.{note_by, view_after}
 use Rattle.speaker_view.specs.ViewValue.{ViewValue}
 
--- ---- it may change anything
+-- ---- it may change anything: a configuration was accepted
 abbrev pub is_accepted : TakeNote → Bool
 is_accepted Accepted = true
 is_accepted Quiet = false
 is_accepted (Refused fault) = false
-
--- a node is shown that is newer than what is held of it
-abbrev pub is_node_shown : ViewValue → ℕ → Object → Bool
-is_node_shown v version (objects.Node node) = is_newer name_cmp v.held.nodes node.name version
-is_node_shown v version (objects.Service service) = false
-is_node_shown v version (objects.Slice slice) = false
-is_node_shown v version (objects.Pool pool) = false
-is_node_shown v version (objects.L2 adv) = false
-is_node_shown v version (objects.Bgp adv) = false
-is_node_shown v version (objects.Peer peer) = false
-is_node_shown v version (objects.Community community) = false
-is_node_shown v version (objects.Namespace namespace) = false
-
-abbrev pub is_node : Kind → Bool
-is_node kinds.Node = true
-is_node kinds.Service = false
-is_node kinds.Slice = false
-is_node kinds.Pool = false
-is_node kinds.L2 = false
-is_node kinds.Bgp = false
-is_node kinds.Peer = false
-is_node kinds.Community = false
-is_node kinds.Namespace = false
-
--- the event ends a list, tells the members, or shows or deletes a node and isn't passed over
-abbrev pub reaches_all : ViewValue → Event → Bool
-reaches_all v (Changed version object) = is_node_shown v version object
-reaches_all v (Deleted kind key) = is_node kind
-reaches_all v (ListEnd group) = true
-reaches_all v Expired = false
-reaches_all v (Members names) = true
-reaches_all v (Frame interface bytes) = false
-reaches_all v Ignored = false
-
--- so it does, or a configuration was accepted
-abbrev pub changes_all : ViewValue → Event → Bool
-changes_all v event = is_accepted (note_by v event) || reaches_all v event
 
 -- ---- else the addresses at which it may
 -- those that the service records, if there is one
@@ -112,32 +78,44 @@ deleted_addresses v kinds.Community key = []
 deleted_addresses v kinds.Namespace key = []
 deleted_addresses v kinds.Node key = []
 
+-- it wasn't shown since its watch expired
+abbrev pub is_unlisted : {K T : Type 0} → K × Versioned T → Bool
+is_unlisted e = e.1.version == 0
+
+-- where a list ends, those of the services that are dropped, and of the services of the slices that are
+abbrev pub unlisted_addresses : ViewValue → ListGroup → List AddressValue
+unlisted_addresses v groups.Config = []
+unlisted_addresses v groups.Service = flat_map (λ e. e.1.object.holding.addresses) (filter is_unlisted v.held.services)
+unlisted_addresses v groups.Endpoint = flat_map (λ e. served_by v (Some e.1.object)) (filter is_unlisted v.held.slices)
+
 abbrev pub changed_addresses : ViewValue → Event → List AddressValue
 changed_addresses v (Changed version object) = shown_addresses v version object
 changed_addresses v (Deleted kind key) = deleted_addresses v kind key
-changed_addresses v (ListEnd group) = []
+changed_addresses v (ListEnd group) = unlisted_addresses v group
 changed_addresses v Expired = []
 changed_addresses v (Members names) = []
 changed_addresses v (Frame interface bytes) = []
 changed_addresses v Ignored = []
 
--- what an event changes: anything, or what is announced at these addresses, which ascend
-abbrev pub change_of : ViewValue → Event → ViewChange
-change_of v event = record { all = changes_all v event; addresses = keys_with address_cmp [] (changed_addresses v event) }
+-- What an event changes: anything where a configuration is accepted, else what is announced at these addresses, and from these nodes.
+pub record IsChangeOf (v : ViewValue) (event : Event) (change : ViewChange) : Type 0 where
+  pub all : change.all ≡ is_accepted (note_by v event)
+  pub nodes : AreChangedNodes v (view_after event v) change.nodes
+  pub addresses : change.addresses ≡ keys_with address_cmp [] (changed_addresses v event)
 
 -- ---- what stays
--- At the address all is as it was that decides who may announce it and by which advertisements: the members, the configuration in force, the
--- nodes' labels, and whether a service with the address can be announced from a node.
-pub record StaysAt (v w : ViewValue) (a : AddressValue) : Type 0 where
+-- At the address all is as it was that decides who may announce it and by which advertisements: the configuration in force, and but for these
+-- nodes which of them are members, their labels, and whether a service with the address can be announced from them.
+pub record StaysAt (v w : ViewValue) (nodes : List (List ℕ)) (a : AddressValue) : Type 0 where
   pub class : w.class ≡ v.class
-  pub members : w.members ≡ v.members
   pub config : w.held.config ≡ v.held.config
-  pub labels : (node : List ℕ) → node_labels w node ≡ node_labels v node
-  pub announced : (node : List ℕ) → announced_from w a node ≡ announced_from v a node
+  pub members : (node : List ℕ) → ¬ (Contains nodes node) → Contains w.members node ↔ Contains v.members node
+  pub labels : (node : List ℕ) → ¬ (Contains nodes node) → node_labels w node ≡ node_labels v node
+  pub announced : (node : List ℕ) → ¬ (Contains nodes node) → announced_from w a node ≡ announced_from v a node
 
 -- where an event doesn't change all, so it is at each address that isn't listed
 abbrev pub OthersStay : ViewValue → ViewValue → ViewChange → Type 0
-OthersStay v w change = change.all ≡ false → (a : AddressValue) → ¬ (Contains change.addresses a) → StaysAt v w a
+OthersStay v w change = change.all ≡ false → (a : AddressValue) → ¬ (Contains change.addresses a) → StaysAt v w change.nodes a
 
 abbrev pub UnchangedAddressesStay : Type 0
-UnchangedAddressesStay = (v : ViewValue) (event : Event) → OthersStay v (view_after event v) (change_of v event)
+UnchangedAddressesStay = (v : ViewValue) (event : Event) (change : ViewChange) → IsChangeOf v event change → OthersStay v (view_after event v) change

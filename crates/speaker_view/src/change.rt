@@ -1,17 +1,18 @@
 //! What an event changes of what nodes announce.
-ghost use Rattle.std.specs.Prelude.{◌≡◌, ◌++◌, ◌||◌, [], if◌then◌else◌, Some, IfOk, OnOk};
-ghost use Rattle.kube_labels.specs.Names.{name_cmp};
+ghost use Rattle.std.specs.Prelude.{◌≡◌, ◌++◌, ◌&&◌, [], filter, if◌then◌else◌, Some, IfOk, OnOk};
+ghost use Rattle.std.specs.List.{flat_map};
 ghost use Rattle.kube_model.specs.Keys.{key_cmp};
 ghost use Rattle.pool_config.specs.KeySets.{keys_with};
 ghost use Rattle.versioned_map.specs.Objects.{is_newer};
 ghost use Rattle.speaker_view.specs.Addresses.{address_cmp};
-ghost use Rattle.speaker_view.specs.Change.{changed_addresses, deleted_addresses, is_accepted, is_node, reaches_all};
-ghost use Rattle.speaker_view.specs.Change.{recorded_at, served_at, served_by, shown_addresses, is_node_shown};
+ghost use Rattle.speaker_view.specs.Change.{changed_addresses, deleted_addresses, is_accepted, is_unlisted};
+ghost use Rattle.speaker_view.specs.Change.{recorded_at, served_at, served_by, shown_addresses, unlisted_addresses};
 
 use crate::index::service_of;
 use crate::view::View;
 use ip_ranges::{Address, AddressList};
-use kube_model::{EndpointSlice, Event, Key, Kind, Node, Object, Service};
+use kube_labels::TextList;
+use kube_model::{EndpointSlice, Event, Key, Kind, ListGroup, Object, Service};
 use mlb_base::NoMemory;
 use object_cache::TakeNote;
 use std::alloc::Global;
@@ -19,12 +20,15 @@ use std::collections::BTreeSet;
 
 /// What an event changes of what nodes announce.
 pub struct ViewChange {
-    /// It may change what is announced at any address: a configuration was accepted, a list ended, or the members were told, or
-    /// a node was shown or deleted.
+    /// It may change what is announced at any address, from any node: a configuration was accepted.
     pub all: bool,
-    /// Else the addresses at which it may, each once, ascending, IPv4 before IPv6: those that a service records that was shown or
-    /// deleted, before and after, and those of the services of an endpoint slice.
+    /// Else the addresses at which it may, each once, ascending, IPv4 before IPv6: those that a
+    /// service records that was shown, deleted or dropped at the end of a list, before and after,
+    /// and those of the services of such an endpoint slice.
     pub addresses: AddressList,
+    /// And the nodes from which it may at each address, by ascending name: those whose held labels
+    /// are others than before, and those that became members or are members no more.
+    pub nodes: TextList,
 }
 
 impl Drop for ViewChange {
@@ -32,76 +36,19 @@ impl Drop for ViewChange {
         let ViewChange {
             all: _,
             addresses: _,
+            nodes: _,
         } = self;
     }
 }
 
-/// Whether it may change all: a configuration was accepted, or the event reaches all.
-pub(crate) fn changes_all(note: &TakeNote, reaches_all: bool) -> bool
-    ensures { result ≡ (is_accepted note.now || reaches_all) }
-{
-    is_accepted(note) || reaches_all
-}
-
 /// Whether a configuration was accepted.
-fn is_accepted(note: &TakeNote) -> bool
+pub(crate) fn is_accepted(note: &TakeNote) -> bool
     ensures { result ≡ is_accepted note.now }
 {
     match note {
         TakeNote::Accepted => true,
         TakeNote::Quiet | TakeNote::Refused { .. } => false,
     }
-}
-
-/// Whether the event ends a list, tells the members, or shows or deletes a node and isn't passed over.
-pub(crate) fn reaches_all(view: &View, event: &Event) -> bool
-    ensures { result ≡ reaches_all view.now event.now }
-{
-    match event {
-        Event::Changed { version, object } => is_node_shown(view, *version, object),
-        Event::Deleted { kind, .. } => is_node(*kind),
-        Event::ListEnd { .. } | Event::Members { .. } => true,
-        Event::Expired | Event::Frame { .. } | Event::Ignored => false,
-    }
-}
-
-fn is_node(kind: Kind) -> bool
-    ensures { result ≡ is_node kind }
-{
-    match kind {
-        Kind::Node => true,
-        Kind::Service
-        | Kind::Slice
-        | Kind::Pool
-        | Kind::L2
-        | Kind::Bgp
-        | Kind::Peer
-        | Kind::Community
-        | Kind::Namespace => false,
-    }
-}
-
-fn is_node_shown(view: &View, version: u64, object: &Object) -> bool
-    ensures { result ≡ is_node_shown view.now version object.now }
-{
-    match object {
-        Object::Node(node) => is_newer(view, version, node),
-        Object::Service(_)
-        | Object::Slice(_)
-        | Object::Pool(_)
-        | Object::L2(_)
-        | Object::Bgp(_)
-        | Object::Peer(_)
-        | Object::Community(_)
-        | Object::Namespace(_) => false,
-    }
-}
-
-/// Whether the node is newer than what is held of it.
-fn is_newer(view: &View, version: u64, node: &Node) -> bool
-    ensures { result ≡ is_newer name_cmp view.now.held.nodes node.now.name version }
-{
-    version > view.nodes().version_of(&node.name)
 }
 
 /// The addresses at which the event may change what is announced, each once, ascending.
@@ -150,11 +97,10 @@ pub(crate) fn changed_addresses(
     match event {
         Event::Changed { version, object } => shown_addresses(alloc, view, *version, object),
         Event::Deleted { kind, key } => deleted_addresses(alloc, view, *kind, key),
-        Event::ListEnd { .. }
-        | Event::Expired
-        | Event::Members { .. }
-        | Event::Frame { .. }
-        | Event::Ignored => Ok(Vec::new(alloc)),
+        Event::ListEnd { group } => unlisted_addresses(alloc, view, *group),
+        Event::Expired | Event::Members { .. } | Event::Frame { .. } | Event::Ignored => {
+            Ok(Vec::new(alloc))
+        }
     }
 }
 
@@ -234,6 +180,47 @@ fn deleted_addresses(
         | Kind::Namespace
         | Kind::Node => Ok(Vec::new(alloc)),
     }
+}
+
+/// Those of what is dropped at the end of the list.
+fn unlisted_addresses(
+    alloc: Global,
+    view: &View,
+    group: ListGroup,
+) -> Result<Vec<Address>, NoMemory>
+    ensures { IfOk result (λ found. found.items ≡ unlisted_addresses view.now group) }
+{
+    match group {
+        ListGroup::Config => Ok(Vec::new(alloc)),
+        ListGroup::Service => unlisted_services(alloc, view),
+        ListGroup::Endpoint => unlisted_slices(alloc, view),
+    }
+}
+
+fn unlisted_services(alloc: Global, view: &View) -> Result<Vec<Address>, NoMemory>
+    ensures { IfOk result (λ found. found.items
+        ≡ flat_map (λ e. e.1.object.holding.addresses) (filter is_unlisted view.now.held.services)) }
+{
+    let mut found = Vec::new(alloc);
+    for (_key, held) in view.services().iter() {
+        if held.version == 0 {
+            found.extend_from_slice(held.object.holding.addresses.as_slice())?;
+        }
+    }
+    Ok(found)
+}
+
+fn unlisted_slices(alloc: Global, view: &View) -> Result<Vec<Address>, NoMemory>
+    ensures { IfOk result (λ found. found.items
+        ≡ flat_map (λ e. served_by view.now (Some e.1.object)) (filter is_unlisted view.now.held.slices)) }
+{
+    let mut found = Vec::new(alloc);
+    for (_key, held) in view.slices().iter() {
+        if held.version == 0 {
+            push_served(&mut found, view, &held.object)?;
+        }
+    }
+    Ok(found)
 }
 
 /// Those that the held service of this key records.

@@ -3,6 +3,7 @@ ghost use Rattle.std.specs.Prelude.{◌≡◌};
 ghost use Rattle.std.specs.Option.{option_copied};
 ghost use Rattle.std.specs.List.{list_any};
 ghost use Rattle.speaker_view.specs.Endpoints.{reaches, serves_from, is_slice_of, slice_serves};
+ghost use Rattle.speaker_view.specs.Index.{is_ready};
 
 use kube_labels::Text;
 use kube_model::{Endpoint, EndpointSlice, Key, Policy};
@@ -32,6 +33,17 @@ pub(crate) fn one_serves(policy: Policy, node: &Text, endpoints: &[Endpoint]) ->
     endpoints
         .iter()
         .any(|endpoint| serves_from(policy, node, endpoint))
+}
+
+/// Whether some endpoint of the slice is usable.
+pub(crate) fn is_ready(slice: &EndpointSlice) -> bool
+    ensures { result ≡ is_ready slice.now }
+{
+    slice
+        .endpoints
+        .as_slice()
+        .iter()
+        .any(|endpoint| endpoint.usable)
 }
 
 /// Whether the slice is one of the service's: of its namespace, and with its name in the label `kubernetes.io/service-name`.

@@ -1,5 +1,5 @@
 //! The view of a speaker.
-ghost use Rattle.std.specs.Prelude.{◌≡◌, ◌↔◌, ◌&&◌, ℕ, List, [], false, filter, Some, None, IfOk, OnOk, OnErr, IsErrOf, IsTrue};
+ghost use Rattle.std.specs.Prelude.{◌≡◌, ◌↔◌, ◌&&◌, ℕ, List, [], true, false, filter, Contains, Some, None, IfOk, OnOk, OnErr, IsErrOf, IsTrue};
 ghost use Rattle.std.specs.Option.{option_copied};
 ghost use Rattle.kube_model.specs.declared.object.Kind.{Kind as KindValue};
 ghost use Rattle.pool_config.specs.ConfigValue.{ConfigValue, IsConfig};
@@ -8,25 +8,30 @@ ghost use Rattle.object_history.specs.Cache.{cached_after};
 ghost use Rattle.object_cache.specs.Change.{applied};
 ghost use Rattle.object_cache.specs.Limits.{limit_of};
 ghost use Rattle.std.specs.List.{list_any};
-ghost use Rattle.ip_ranges.specs.Values.{has_address};
+ghost use Rattle.std.specs.List.Sorted.{IsStrictlySortedBy};
+ghost use Rattle.std.specs.Map.{keys_of};
+ghost use Rattle.kube_labels.specs.Names.{name_cmp};
+ghost use Rattle.ip_ranges.specs.Values.{AddressValue, has_address};
 ghost use Rattle.kube_model.specs.Keys.{key_cmp};
 ghost use Rattle.kube_model.specs.declared.slice.EndpointSlice.{EndpointSlice as SliceValue};
 ghost use Rattle.pool_config.specs.KeySets.{keys_with};
 ghost use Rattle.versioned_map.specs.Objects.{object_at};
 ghost use Rattle.speaker_view.specs.Addresses.{address_cmp};
-ghost use Rattle.speaker_view.specs.Change.{OthersStay, change_of, recorded_at, served_by};
+ghost use Rattle.speaker_view.specs.Change.{OthersStay, changed_addresses, is_accepted, recorded_at, served_by};
 ghost use Rattle.speaker_view.specs.Grouped.{service_of};
 ghost use Rattle.kube_model.specs.Service.{is_handled};
 ghost use Rattle.speaker_view.specs.Endpoints.{announced_from, endpoint_for, can_announce, node_labels, allows_balancers, has_usable};
 ghost use Rattle.speaker_view.specs.Endpoints.{is_recorded_in, is_served_in, recorded_addresses, HasEndpoint, CanAnnounce};
 ghost use Rattle.speaker_view.specs.Index.{Covers, HasShown, passes};
+ghost use Rattle.speaker_view.specs.Nodes.{AreChangedNodes, nodes_by};
 ghost use Rattle.speaker_view.specs.View.{fresh, view_after, note_by, limit_by};
 
-use crate::change::{ViewChange, changes_all, listed, listed_addresses, reaches_all};
+use crate::change::{ViewChange, is_accepted, listed, listed_addresses};
 use crate::index::{Index, Stale, one_records, records};
+use crate::nodes::changed_nodes;
 use ip_ranges::{Address, AddressList};
 use kube_labels::{Labels, Text, TextList};
-use kube_model::{EndpointSlice, Event, Key, Kind, Node, Policy, Service};
+use kube_model::{EndpointSlice, Event, Key, Kind, Node, Policy, Service, both};
 use mlb_base::NoMemory;
 use object_cache::{ApplyFault, ObjectCache, TakeNote};
 use pool_config::Config;
@@ -109,7 +114,10 @@ impl View {
     /// Applies an event, as `apply` does, and tells what it changes of what nodes announce.
     pub fn apply_noting(&mut self, event: Event) -> Result<(TakeNote, ViewChange), ApplyFault>
         ensures note { IfOk result (λ noted. noted.0 ≡ note_by self.old event) }
-        ensures change { IfOk result (λ noted. noted.1 ≡ change_of self.old event) }
+        ensures all { IfOk result (λ noted. noted.1.all ≡ is_accepted (note_by self.old event)) }
+        ensures nodes { IfOk result (λ noted. AreChangedNodes self.old self.new noted.1.nodes) }
+        ensures addresses { IfOk result (λ noted. noted.1.addresses
+            ≡ keys_with address_cmp [] (changed_addresses self.old event)) }
         ensures ok { OnOk result (self.new ≡ view_after event self.old) }
         ensures stay { IfOk result (λ noted. OthersStay self.old self.new noted.1) }
         ensures limit { (kind : KindValue) (count : ℕ)
@@ -127,16 +135,18 @@ impl View {
     fn apply_below(&mut self, event: Event) -> Result<(TakeNote, ViewChange), ApplyFault>
         requires { limit_by self.old event ≡ None }
         ensures note { IfOk result (λ noted. noted.0 ≡ note_by self.old event) }
-        ensures change { IfOk result (λ noted. noted.1 ≡ change_of self.old event) }
+        ensures all { IfOk result (λ noted. noted.1.all ≡ is_accepted (note_by self.old event)) }
+        ensures nodes { IfOk result (λ noted. AreChangedNodes self.old self.new noted.1.nodes) }
+        ensures addresses { IfOk result (λ noted. noted.1.addresses
+            ≡ keys_with address_cmp [] (changed_addresses self.old event)) }
         ensures ok { OnOk result (self.new ≡ view_after event self.old) }
         ensures stay { IfOk result (λ noted. OthersStay self.old self.new noted.1) }
         ensures limit { (kind : KindValue) (count : ℕ)
             → IsErrOf result (ApplyFault.Limit kind count) ↔ (limit_by self.old event ≡ Some (kind, count)) }
         ensures err { OnErr result (self.new ≡ self.old) }
     {
-        let reaches_all = reaches_all(self, &event);
-        let addresses = match listed_addresses(self.alloc, self, &event) {
-            Ok(addresses) => addresses,
+        let (addresses, nodes) = match self.changed_by(&event) {
+            Ok(changed) => changed,
             Err(NoMemory) => {
                 drop(event);
                 return Err(ApplyFault::NoMemory);
@@ -144,14 +154,36 @@ impl View {
         };
         match self.apply(event) {
             Ok(note) => {
-                let all = changes_all(&note, reaches_all);
-                Ok((note, ViewChange { all, addresses }))
+                let all = is_accepted(&note);
+                Ok((
+                    note,
+                    ViewChange {
+                        all,
+                        addresses,
+                        nodes,
+                    },
+                ))
             }
             Err(fault) => {
                 drop(addresses);
+                drop(nodes);
                 Err(fault)
             }
         }
+    }
+
+    /// The addresses and the nodes that the event changes where it is applied.
+    fn changed_by(&self, event: &Event) -> Result<(AddressList, TextList), NoMemory>
+        ensures addresses { IfOk result (λ changed. changed.0
+            ≡ keys_with address_cmp [] (changed_addresses self.now event.now)) }
+        ensures nodes { IfOk result (λ changed. changed.1 ≡ nodes_by self.now event.now) }
+        ensures ascending { IsStrictlySortedBy name_cmp (keys_of self.now.held.nodes) }
+    {
+        let _ascending = self.nodes().len();
+        both(
+            listed_addresses(self.alloc, self, event),
+            changed_nodes(self.alloc, self, event),
+        )
     }
 
     fn limit_of(&self, event: &Event) -> Option<(Kind, u64)>
@@ -219,6 +251,14 @@ impl View {
         listed(self.alloc, &recorded)
     }
 
+    /// Addresses, each once, among which are all that held services record. This takes no memory.
+    pub fn known_addresses(&self) -> Keys<'_, Address, BTreeSet<Key>>
+        ensures { (address : AddressValue) → is_recorded_in self.now address ≡ true → Contains result address }
+    {
+        let _ascending = self.cache.services().len();
+        self.index.addresses()
+    }
+
     /// Those of the addresses that held services record.
     fn recorded_among(
         &self,
@@ -284,13 +324,14 @@ impl View {
         self.handles(service) && self.serves_from(service, node) && self.lets_balance(node)
     }
 
-    /// Whether some held service that records the address can be announced from the node. It looks at these services and their
-    /// endpoint slices alone, and takes no memory.
+    /// Whether some held service that records the address can be announced from the node. Of these services it
+    /// looks at those with a usable endpoint alone, and takes no memory.
     pub fn is_announced_from(&self, address: &Address, node: &Text) -> bool
         ensures { result ≡ announced_from self.now address.now node.now }
     {
         let _ascending = self.cache.services().len();
-        match self.index.services_by_address(address) {
+        let _ascend = self.cache.slices().len();
+        match self.index.servers_by_address(address) {
             None => false,
             Some(keys) => self.announces_one(keys, address, node),
         }
@@ -303,7 +344,8 @@ impl View {
         ensures nowhere { (node : List ℕ) → result ≡ false → announced_from self.now address.now node ≡ false }
     {
         let _ascending = self.cache.services().len();
-        match self.index.services_by_address(address) {
+        let _ascend = self.cache.slices().len();
+        match self.index.servers_by_address(address) {
             None => false,
             Some(keys) => self.serves_one(keys, address),
         }
@@ -424,10 +466,10 @@ fn prepared(
 ) -> Result<Stale, NoMemory>
     requires { Covers index.old cache.now }
     ensures covers { Covers index.new cache.now }
-    ensures has { OnOk result (HasShown index.new event.now) }
+    ensures has { OnOk result (HasShown index.new cache.now event.now) }
 {
     let stale = Stale::by(alloc, cache, event)?;
-    match index.add_shown(event) {
+    match index.add_shown(cache, event) {
         Ok(()) => Ok(stale),
         Err(refused) => {
             drop(stale);
@@ -443,7 +485,7 @@ fn apply_within(
     event: Event,
 ) -> Result<TakeNote, ApplyFault>
     requires covers { Covers index.now cache.old }
-    requires has { HasShown index.now event }
+    requires has { HasShown index.now cache.old event }
     ensures note { IfOk result (λ note. note ≡ (applied cache.old event).note) }
     ensures ok { OnOk result (cache.new ≡ cached_after (Watched event) cache.old) }
     ensures limit { (kind : KindValue) (count : ℕ)

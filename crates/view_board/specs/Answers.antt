@@ -5,7 +5,7 @@ use Rattle.kube_model.specs.declared.event.Event.{Event}
 use Rattle.speaker_view.specs.declared.change.ViewChange.{ViewChange}
 use Rattle.speaker_view.specs.View.{fresh, view_after}
 use Rattle.speaker_view.specs.ViewValue.{ViewValue}
-use Rattle.l2_elect.specs.Kept.{AreRightBut}
+use Rattle.l2_elect.specs.Kept.{WereKept}
 use Rattle.neigh_frames.specs.Arp.{IsArpAnswer}
 use Rattle.neigh_frames.specs.Ndp.{IsNdpAnswer}
 use Rattle.view_board.specs.declared.answer.Answer.{Answer}
@@ -30,7 +30,7 @@ module _ (v : ViewValue) (node interface mac frame : List ℕ) where
   IsAnswer (Ndp bytes) = NoArp × IsNdpAnswer v node interface mac frame bytes
   IsAnswer Silent = NoArp × NoNdp
 
--- where announcers were known, they are those of the view but for what the change may have changed
+-- where announcers were known, they were those of a view before the change
 abbrev pub AreRightIfKnown : ViewChange → Option (List (AddressValue × List ℕ)) → ViewValue → Type 0
 AreRightIfKnown change None v = ⊤
-AreRightIfKnown change (Some entries) v = AreRightBut change entries v
+AreRightIfKnown change (Some entries) v = WereKept change entries v

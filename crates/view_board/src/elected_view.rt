@@ -1,10 +1,9 @@
 //! A view, as what follows events and answers frames.
-ghost use Rattle.std.specs.Prelude.{◌≡◌, false, OnOk, OnErr};
+ghost use Rattle.std.specs.Prelude.{◌≡◌, IfOk, OnOk, OnErr};
 ghost use Rattle.speaker_view.specs.View.{fresh, view_after};
-ghost use Rattle.l2_elect.specs.Kept.{AreKeptBut, AreKeptFor, AreKnown, AreRightBut};
+ghost use Rattle.l2_elect.specs.Kept.{AreKeptFor, AreKnown, WereKept};
 ghost use Rattle.view_board.specs.Answers.{AreRightIfKnown};
 
-use ip_ranges::AddressList;
 use kube_labels::Text;
 use kube_model::Event;
 use l2_elect::Announcers;
@@ -109,8 +108,8 @@ impl<J: Classed> Follower<Event> for ElectedView<J> {
     }
 }
 
-/// The announcers by the view as it is after the change, if there is memory to know them: where they were known before it, the election is held
-/// for the addresses that the change lists alone, unless it may change all.
+/// The announcers by the view as it is after the change, if there is memory to know them: where they
+/// were known before it, those that it moves are elected alone.
 fn renewed(
     alloc: Global,
     known: Option<Announcers>,
@@ -120,31 +119,34 @@ fn renewed(
     requires { AreRightIfKnown change.now known view.now }
     ensures { AreKnown result view.now }
 {
-    let (mut announcers, all) = match known {
-        Some(announcers) => (announcers, change.all),
-        None => (Announcers::new(alloc), true),
+    let elected = match known {
+        Some(announcers) => moved(announcers, view, change),
+        None => rebuilt(Announcers::new(alloc), view),
     };
-    match renew(&mut announcers, view, all, &change.addresses) {
-        Ok(()) => Some(announcers),
-        Err(NoMemory) => {
-            drop(announcers);
-            None
-        }
+    match elected {
+        Ok(announcers) => Some(announcers),
+        Err(NoMemory) => None,
     }
 }
 
-/// Makes the announcers those of the view, all of them or at these addresses.
-fn renew(
-    announcers: &mut Announcers,
-    view: &View,
-    all: bool,
-    addresses: &AddressList,
-) -> Result<(), NoMemory>
-    requires { all ≡ false → AreKeptBut addresses.now announcers.old view.now }
-    ensures { OnOk result (AreKeptFor announcers.new view.now) }
+/// Makes the announcers those of the view.
+fn rebuilt(mut announcers: Announcers, view: &View) -> Result<Announcers, NoMemory>
+    ensures { IfOk result (λ elected. AreKeptFor elected view.now) }
 {
-    if all {
-        return announcers.rebuild(view);
-    }
-    announcers.renew(view, addresses)
+    announcers.rebuild(view)?;
+    Ok(announcers)
+}
+
+/// The same, where they were those of the view before.
+fn moved(
+    mut announcers: Announcers,
+    view: &View,
+    change: &ViewChange,
+) -> Result<Announcers, NoMemory>
+    requires { WereKept change.now announcers view.now }
+    ensures { IfOk result (λ elected. AreKeptFor elected view.now) }
+{
+    let moves = announcers.moves(view, change)?;
+    announcers.make(moves)?;
+    Ok(announcers)
 }

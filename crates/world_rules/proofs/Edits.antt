@@ -1,4 +1,5 @@
 -- An edit keeps what holds of a world.
+use Rattle.world_rules.specs.Tracked.{is_given}
 use Rattle.std.proofs.Common.{◌≡◌, ℕ, ◌+◌, Bool, true, false, cond, List, [], ◌∷◌, ◌++◌, Option, Some, None}
 use Rattle.std.proofs.Common.{option_map, is_some, is_eq, IfSome, refl, sym, ap, subst, ◌∙◌, append-nil}
 use Rattle.std.proofs.lemmas.Bool.{true≢false}
@@ -14,7 +15,7 @@ use Rattle.kube_model.specs.declared.object.Object.TheVariants as objects
 use Rattle.kube_model.specs.declared.record.Record.{Record}
 use Rattle.kube_model.specs.declared.service.Service.{Service}
 use Rattle.kube_model.specs.Keys.{same_key}
-use Rattle.kube_model.specs.Records.{empty_record, is_assigned}
+use Rattle.kube_model.specs.Records.{empty_record}
 use Rattle.kube_model.specs.Kinds.{kind_of, group_of}
 use Rattle.kube_model.specs.Service.{with_holding}
 use Rattle.kube_model.proofs.KeyLaws.{same_key-is, is_eq-key_cmp}
@@ -40,7 +41,7 @@ use Rattle.world_rules.proofs.Storing.{set_store, good-set_store, good-delete}
 
 -- ---- a service is set or deleted, this one or another
 set_by : (b : Bool) (n : ℕ) (ended : Bool) (o : Option Stored) (service : Service) (h : Option Shown) (claims : List Record) (notices : List Notice)
-    → (b ≡ true → is_assigned service.holding ≡ true → service.holding ≡ kept_record o) → IsTracked n ended (option_map stored_as o) h claims notices
+    → (b ≡ true → is_given service.holding ≡ true → service.holding ≡ kept_record o) → IsTracked n ended (option_map stored_as o) h claims notices
     → IsTracked (n + 1) ended (option_map stored_as (cond b (Some (record { version = n + 1; object = objects.Service service })) o)) h claims
     (notices ++ cond b (Shows (at_next n service.holding) ∷ []) [])
 set_by true n ended None service h claims notices keeps t =
@@ -88,7 +89,7 @@ module _ (w : WorldValue) (s : State) (key : Key) where
   here = stored_at w.store.objects (service_at key)
 
   service-set : (service : Service) (holding : Record)
-      → (is_assigned holding ≡ true → holding ≡ kept_record (stored_at w.store.objects (service_at service.key)))
+      → (is_given holding ≡ true → holding ≡ kept_record (stored_at w.store.objects (service_at service.key)))
       → IsTrackedIn w s key → IsTrackedSet (objects.Service service) holding
   service-set service holding keeps t =
       let kept : Service = with_holding holding service in
@@ -114,7 +115,7 @@ module _ (w : WorldValue) (s : State) (key : Key) where
       ∙ ap (notices_in key) (append-nil w.service_lane))
       (tracked-other w.store.counter s.held.services_ended (stored_of w.store key) (held_of s key) (records_of key s.claims) (notices_in key w.service_lane) t)
 
-  set-tracked : (object : Object) (holding : Record) → (is_assigned holding ≡ true → holding ≡ kept_record (stored_at w.store.objects (place_of object)))
+  set-tracked : (object : Object) (holding : Record) → (is_given holding ≡ true → holding ≡ kept_record (stored_at w.store.objects (place_of object)))
       → IsTrackedIn w s key → IsTrackedSet object holding
   set-tracked (objects.Service service) holding keeps t = service-set service holding keeps t
   set-tracked (objects.Pool pool) holding keeps t = other-set (objects.Pool pool) holding refl refl t
@@ -199,7 +200,7 @@ good-deleted kind gone w good = record {
 }
 
 set-up : (object : Object) (holding : Record) (w : WorldValue) (c : Option State)
-    → (is_assigned holding ≡ true → holding ≡ kept_record (stored_at w.store.objects (place_of object)))
+    → (is_given holding ≡ true → holding ≡ kept_record (stored_at w.store.objects (place_of object)))
     → IfSome c (IsFollowed w) → IfSome c (IsFollowed (set_world object holding w c))
 set-up object holding w None keeps up = tt
 set-up object holding w (Some s) keeps up = record {
@@ -215,7 +216,7 @@ set-up object holding w (Some s) keeps up = record {
 }
 
 pub good-set : (object : Object) (holding : Record) (w : WorldValue)
-    → (is_assigned holding ≡ true → holding ≡ kept_record (stored_at w.store.objects (place_of object)))
+    → (is_given holding ≡ true → holding ≡ kept_record (stored_at w.store.objects (place_of object)))
     → IsGood w → IsGood (after_set object holding w)
 good-set object holding w keeps good = record {
   stored = good-set_store object holding w.store keeps good.stored;

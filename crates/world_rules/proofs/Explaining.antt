@@ -13,7 +13,7 @@ use Rattle.kube_model.specs.declared.object.Object.TheVariants as objects
 use Rattle.kube_model.specs.declared.put.Put.{Put}
 use Rattle.kube_model.specs.Kinds.{kind_of, group_of}
 use Rattle.status_store.specs.declared.change.Outcome.{Outcome}
-use Rattle.status_store.specs.Changes.{after_put, reply_to}
+use Rattle.status_store.specs.Changes.{StoreValue, after_put, reply_to}
 use Rattle.core_rules.specs.declared.turn.Turn.{Turn}
 use Rattle.core_rules.specs.declared.turn.Turn.TheVariants.{Idle, NoPut, Wants}
 use Rattle.core_rules.specs.Core.{State}
@@ -25,23 +25,24 @@ use Rattle.core_rules.proofs.Runs.{core_holds_what_was_observed, took-out, heard
 use Rattle.core_laws.proofs.Expired.{expired_is_both}
 use Rattle.core_laws.proofs.Puts.{idle-queue}
 use Rattle.core_laws.specs.Shared.{AllShowTerms}
-use Rattle.world_rules.specs.Moves.{Move, Sets, Deletes, Tells, Takes, Turns, Stops, Starts, ConfigExpires, ServicesExpire, EndsLater}
+use Rattle.world_rules.specs.Moves.{Move, Sets, Deletes, Tells, Takes, Turns, Stops, Starts, ConfigExpires, ServicesExpire, EndsLater, Lands}
 use Rattle.world_rules.specs.Moves.{entries_taken, entries_put, entries_turned, entries_of, run_along, after_move, after_moves, begun}
 use Rattle.world_rules.specs.Explaining.{Act, Shown, ListExpired, Decided, Answered, shown_of, acts_of_event, acts_of_turn, acts_of_entry}
-use Rattle.world_rules.specs.Explaining.{acts_of, answered, puts_of_entry, puts_of, IsRunning, IsExplained, RunsAreSafeInWorlds}
+use Rattle.world_rules.specs.Explaining.{acts_of, answered, puts_of_entry, puts_of, IsRunning, Explains, IsExplained, RunsAreSafeInWorlds}
 use Rattle.world_rules.specs.Good.{IsGood}
 use Rattle.world_rules.proofs.Worlds.{starts_are_good, good-moves, safe-along}
 use Rattle.world_rules.proofs.Turns.{good-turn}
+use Rattle.world_rules.proofs.Landing.{none-expected}
 use Rattle.world_rules.specs.Safe.{IsSafe}
 use Rattle.world_rules.specs.World.{WorldValue, told, turned, after_turning}
 
 -- ---- the same run, without what is passed over
-abbrev normal_shown : ListGroup → Event → List TranscriptEntry
+abbrev pub normal_shown : ListGroup → Event → List TranscriptEntry
 normal_shown groups.Config event = Took event ∷ []
 normal_shown groups.Service event = Took event ∷ []
 normal_shown groups.Endpoint event = []
 
-abbrev normal_event : Event → List TranscriptEntry
+abbrev pub normal_event : Event → List TranscriptEntry
 normal_event (Changed version object) = normal_shown (group_of (kind_of object)) (Changed version object)
 normal_event (Deleted kind key) = normal_shown (group_of kind) (Deleted kind key)
 normal_event (ListEnd group) = normal_shown group (ListEnd group)
@@ -50,23 +51,23 @@ normal_event (Members names) = []
 normal_event (Frame interface bytes) = []
 normal_event Ignored = []
 
-abbrev normal_turn : Turn → List TranscriptEntry
+abbrev pub normal_turn : Turn → List TranscriptEntry
 normal_turn Idle = []
 normal_turn (NoPut key pending) = Turned (NoPut key pending) ∷ []
 normal_turn (Wants put pending) = Turned (Wants put pending) ∷ []
 
-abbrev normal_entry : TranscriptEntry → List TranscriptEntry
+abbrev pub normal_entry : TranscriptEntry → List TranscriptEntry
 normal_entry (Took event) = normal_event event
 normal_entry (Expired group) = Expired group ∷ []
 normal_entry (Turned turn) = normal_turn turn
 normal_entry (Heard reply) = Heard reply ∷ []
 
-abbrev normal : List TranscriptEntry → List TranscriptEntry
+abbrev pub normal : List TranscriptEntry → List TranscriptEntry
 normal [] = []
 normal (entry ∷ earlier) = normal_entry entry ++ normal earlier
 
 -- what an entry of it is
-abbrev act_of : TranscriptEntry → Act
+abbrev pub act_of : TranscriptEntry → Act
 act_of (Took event) = Shown event
 act_of (Expired group) = ListExpired group
 act_of (Turned turn) = Decided
@@ -98,7 +99,7 @@ entry-acts (Expired group) more = refl
 entry-acts (Turned turn) more = turn-acts turn more
 entry-acts (Heard reply) more = refl
 
-acts-normal : (run : List TranscriptEntry) → map act_of (normal run) ≡ acts_of run
+pub acts-normal : (run : List TranscriptEntry) → map act_of (normal run) ≡ acts_of run
 acts-normal [] = refl
 acts-normal (entry ∷ earlier) = entry-acts entry (normal earlier) ∙ ap (λ (acts : List Act). acts_of_entry entry ++ acts) (acts-normal earlier)
 
@@ -125,7 +126,7 @@ entry-puts (Turned (NoPut key pending)) more = refl
 entry-puts (Turned (Wants put pending)) more = refl
 entry-puts (Heard reply) more = refl
 
-puts-normal : (run : List TranscriptEntry) → puts_of (normal run) ≡ puts_of run
+pub puts-normal : (run : List TranscriptEntry) → puts_of (normal run) ≡ puts_of run
 puts-normal [] = refl
 puts-normal (entry ∷ earlier) = entry-puts entry (normal earlier) ∙ ap (λ (puts : List Put). puts_of_entry entry ++ puts) (puts-normal earlier)
 
@@ -141,7 +142,7 @@ idle-same s none idle =
 
 module _ (class : Option (List ℕ)) where
   -- a run, and the core behind it
-  abbrev LeadsTo : List TranscriptEntry → State → Type 0
+  abbrev pub LeadsTo : List TranscriptEntry → State → Type 0
   LeadsTo run s = IsRun class run × (core_after class run ≡ s)
 
   object-leads : (version : ℕ) (object : Object) (n : List TranscriptEntry) → IsRun class n → (core_after class n).out ≡ None
@@ -186,7 +187,7 @@ module _ (class : Option (List ℕ)) where
   turn-leads (NoPut key pending) n is none e = (((none, e), is), refl)
   turn-leads (Wants put pending) n is none e = (((none, e), is), refl)
 
-  normal-leads : (run : List TranscriptEntry) → IsRun class run → LeadsTo (normal run) (core_after class run)
+  pub normal-leads : (run : List TranscriptEntry) → IsRun class run → LeadsTo (normal run) (core_after class run)
   normal-leads [] is = (tt, refl)
   normal-leads (Took event ∷ earlier) is =
       let ih = normal-leads earlier is.1 in
@@ -222,7 +223,7 @@ module _ (class : Option (List ℕ)) where
   same-entry (Heard reply) (Turned turn) s p q e = absurd (cc)
   same-entry (Heard reply) (Heard other) s p q e = let same : reply ≡ other = cc in ap Heard same
 
-  same-runs : (n m : List TranscriptEntry) → IsRun class n → IsRun class m → map act_of n ≡ map act_of m → n ≡ m
+  pub same-runs : (n m : List TranscriptEntry) → IsRun class n → IsRun class m → map act_of n ≡ map act_of m → n ≡ m
   same-runs [] [] p q e = refl
   same-runs [] (y ∷ m) p q e = absurd (cc)
   same-runs (x ∷ n) [] p q e = absurd (cc)
@@ -263,7 +264,7 @@ module _ (class : Option (List ℕ)) where
         none = heard-out (after_turn s).out (reply_to put outcome w.store) (after_turn s) out;
       }
 
-  move-through : (move : Move) (w : WorldValue) (run : List TranscriptEntry) → IsRunning move → GoesThrough w run
+  pub move-through : (move : Move) (w : WorldValue) (run : List TranscriptEntry) → IsRunning move → GoesThrough w run
       → GoesThrough (after_move move w) (entries_of move w ++ run)
   move-through (Sets object holding) w run r g = record { class_is = g.class_is; is = g.is; core = g.core; none = g.none }
   move-through (Deletes kind key) w run r g = record { class_is = g.class_is; is = g.is; core = g.core; none = g.none }
@@ -283,6 +284,7 @@ module _ (class : Option (List ℕ)) where
   move-through (ServicesExpire list) w run r g =
       record { class_is = g.class_is; is = rw g.core (g.none, g.is); core = rw g.core refl; none = rw g.core g.none }
   move-through (EndsLater before event behind) w run r g = record { class_is = g.class_is; is = g.is; core = g.core; none = g.none }
+  move-through (Lands put) w run r g = record { class_is = g.class_is; is = g.is; core = g.core; none = g.none }
 
   moves-through : (moves : List Move) (w : WorldValue) (run : List TranscriptEntry) → AllByRecursion IsRunning moves → GoesThrough w run
       → GoesThrough (after_moves moves w) (run_along moves w run)
@@ -290,7 +292,7 @@ module _ (class : Option (List ℕ)) where
   moves-through (move ∷ moves) w run all g = moves-through moves (after_move move w) (entries_of move w ++ run) all.1 (move-through move w run all.0 g)
 
   -- ---- a world that explains a run
-  answered-run : (run : List TranscriptEntry) → IsRun class run → IsRun class (answered run)
+  pub answered-run : (run : List TranscriptEntry) → IsRun class run → IsRun class (answered run)
   answered-run [] is = is
   answered-run (Took event ∷ earlier) is = is
   answered-run (Expired group ∷ earlier) is = is
@@ -405,7 +407,7 @@ event-terms (Members names) more all = (tt, all)
 event-terms (Frame interface bytes) more all = (tt, all)
 event-terms Ignored more all = (tt, all)
 
-terms-normal : (run : List TranscriptEntry) → AllShowTerms run → AllShowTerms (normal run)
+pub terms-normal : (run : List TranscriptEntry) → AllShowTerms run → AllShowTerms (normal run)
 terms-normal [] all = tt
 terms-normal (Took event ∷ earlier) all = terms-event event (normal earlier) (all.0, terms-normal earlier all.1)
 terms-normal (Expired group ∷ earlier) all = (tt, terms-normal earlier all.1)
@@ -425,7 +427,7 @@ normal-terms (Turned (NoPut key pending) ∷ earlier) all = (tt, normal-terms ea
 normal-terms (Turned (Wants put pending) ∷ earlier) all = (tt, normal-terms earlier all.1)
 normal-terms (Heard reply ∷ earlier) all = (tt, normal-terms earlier all.1)
 
-terms-answered : (run : List TranscriptEntry) → AllShowTerms run → AllShowTerms (answered run)
+pub terms-answered : (run : List TranscriptEntry) → AllShowTerms run → AllShowTerms (answered run)
 terms-answered [] all = all
 terms-answered (Took event ∷ earlier) all = all
 terms-answered (Expired group ∷ earlier) all = all
@@ -434,8 +436,16 @@ terms-answered (Turned (NoPut key pending) ∷ earlier) all = all
 terms-answered (Turned (Wants put pending) ∷ earlier) all = all.1
 terms-answered (Heard reply ∷ earlier) all = all
 
-pub runs_are_safe_in_worlds : RunsAreSafeInWorlds
-runs_are_safe_in_worlds class run is typed store list moves ex =
+-- what is known of a world that explains a run: what it was shown has terms, and it goes through the same run
+pub record GoesAlong (class : Option (List ℕ)) (w : WorldValue) (along run : List TranscriptEntry) : Type 0 where
+  pub shown : AllShowTerms along
+  pub core : w.core ≡ Some (core_after class (answered run))
+  pub puts : puts_of along ≡ puts_of (answered run)
+
+along-run : (class : Option (List ℕ)) (run : List TranscriptEntry) → IsRun class run → AllShowTerms run → (store : StoreValue) (list : List Event)
+    (moves : List Move) → Explains class store list moves run
+    → GoesAlong class (after_moves moves (begun class store list)) (run_along moves (begun class store list) []) run
+along-run class run is typed store list moves ex =
     let w0 = begun class store list in
     let along = run_along moves w0 [] in
     let led : GoesThrough class (after_moves moves w0) along =
@@ -444,9 +454,25 @@ runs_are_safe_in_worlds class run is typed store list moves ex =
     let theirs = normal-leads class (answered run) (answered-run class run is) in
     let acts : map act_of (normal along) ≡ map act_of (normal (answered run)) = acts-normal along ∙ ex.same ∙ sym (acts-normal (answered run)) in
     let same : normal along ≡ normal (answered run) = same-runs class (normal along) (normal (answered run)) mine.0 theirs.0 acts in
-    let shown : AllShowTerms along = normal-terms along (subst AllShowTerms (sym same) (terms-normal (answered run) (terms-answered run typed))) in
-    let begins : IsGood w0 = starts_are_good class store list ex.good ex.listed in
-    let good : IsGood (after_moves moves w0) = good-moves moves w0 [] ex.may shown begins in
     let cores : core_after class along ≡ core_after class (answered run) = sym mine.1 ∙ ap (core_after class) same ∙ theirs.1 in
-    let puts : puts_of along ≡ puts_of (answered run) = sym (puts-normal along) ∙ ap puts_of same ∙ puts-normal (answered run) in
-    (explains class (after_moves moves w0) along run is (led.core ∙ ap Some cores) puts good, safe-along moves w0 [] ex.may shown begins)
+    record {
+      shown = normal-terms along (subst AllShowTerms (sym same) (terms-normal (answered run) (terms-answered run typed)));
+      core = led.core ∙ ap Some cores;
+      puts = sym (puts-normal along) ∙ ap puts_of same ∙ puts-normal (answered run);
+    }
+
+-- services that its world was shown have terms
+pub world-shown : (class : Option (List ℕ)) (run : List TranscriptEntry) → IsRun class run → AllShowTerms run → (store : StoreValue) (list : List Event)
+    (moves : List Move) → Explains class store list moves run → AllShowTerms (run_along moves (begun class store list) [])
+world-shown class run is typed store list moves ex = (along-run class run is typed store list moves ex).shown
+
+pub runs_are_safe_in_worlds : RunsAreSafeInWorlds
+runs_are_safe_in_worlds class run is typed store list moves ex =
+    let w0 = begun class store list in
+    let along = run_along moves w0 [] in
+    let known = along-run class run is typed store list moves ex in
+    let begins : IsGood w0 = starts_are_good class store list ex.good ex.listed in
+    let good : IsGood (after_moves moves w0) = good-moves moves w0 [] [] ex.may known.shown begins (none-expected w0.store w0.core) in (
+      explains class (after_moves moves w0) along run is known.core known.puts good,
+      safe-along moves w0 [] [] ex.may known.shown begins (none-expected w0.store w0.core),
+    )

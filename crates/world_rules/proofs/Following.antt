@@ -1,10 +1,10 @@
 -- What is pending of a service leads from what is held to what is stored: how each change keeps that.
+use Rattle.world_rules.specs.Tracked.{is_given}
 use Rattle.std.proofs.Common.{◌≡◌, ℕ, ◌+◌, ◌≤◌, ◌<◌, Bool, true, false, cond, leb, eqb, List, [], ◌∷◌, ◌++◌}
 use Rattle.std.proofs.Common.{Option, Some, None, refl, sym, ap, ◌∙◌, arith, MatchBool}
 use Rattle.std.proofs.lemmas.Bool.{true≢false}
 use Rattle.std.proofs.lemmas.Bool.Decides.{nat_tests}
 use Rattle.kube_model.specs.declared.record.Record.{Record}
-use Rattle.kube_model.specs.Records.{is_assigned}
 use Rattle.world_rules.specs.Tracked.{Shown, Notice, Shows, Gone, End, version_at, IsBare, Agrees, after_shows}
 use Rattle.world_rules.specs.Tracked.{after_end, is_unlisted, Follows, has_gone, IsJust, AreGiven, AreOld}
 
@@ -40,19 +40,19 @@ has_gone-last (Gone ∷ more) = refl
 has_gone-last (End ∷ more) = has_gone-last more
 
 -- a record whose address is another one's has none where that one has none
-bare_by : (b : Bool) (y x : Record) → is_assigned y ≡ b → (is_assigned y ≡ true → y ≡ x) → is_assigned x ≡ false → is_assigned y ≡ false
-bare_by true y x e keeps bare = absurd (true≢false (sym (ap is_assigned (sym (keeps e)) ∙ e) ∙ bare))
+bare_by : (b : Bool) (y x : Record) → is_given y ≡ b → (is_given y ≡ true → y ≡ x) → is_given x ≡ false → is_given y ≡ false
+bare_by true y x e keeps bare = absurd (true≢false (sym (ap is_given (sym (keeps e)) ∙ e) ∙ bare))
 bare_by false y x e keeps bare = e
 
-pub stays-bare : (y x : Record) → (is_assigned y ≡ true → y ≡ x) → is_assigned x ≡ false → is_assigned y ≡ false
-stays-bare y x keeps bare = bare_by (is_assigned y) y x refl keeps bare
+pub stays-bare : (y x : Record) → (is_given y ≡ true → y ≡ x) → is_given x ≡ false → is_given y ≡ false
+stays-bare y x keeps bare = bare_by (is_given y) y x refl keeps bare
 
-carried-same : (b : Bool) (x y : Shown) (r : Record) → (is_assigned y.holding ≡ true → y.holding ≡ x.holding)
+carried-same : (b : Bool) (x y : Shown) (r : Record) → (is_given y.holding ≡ true → y.holding ≡ x.holding)
     → MatchBool b (IsBare (Some x)) (IsJust (Some x) r) → MatchBool b (IsBare (Some y)) (IsJust (Some y) r)
 carried-same true x y r keeps c = stays-bare y.holding x.holding keeps c
-carried-same false x y r keeps c = λ has. c (ap is_assigned (sym (keeps has)) ∙ has) ∙ sym (keeps has)
+carried-same false x y r keeps c = λ has. c (ap is_given (sym (keeps has)) ∙ has) ∙ sym (keeps has)
 
-carried-create : (b : Bool) (y : Shown) (r : Record) → is_assigned y.holding ≡ false → MatchBool b (IsBare None) (IsJust None r)
+carried-create : (b : Bool) (y : Shown) (r : Record) → is_given y.holding ≡ false → MatchBool b (IsBare None) (IsJust None r)
     → MatchBool b (IsBare (Some y)) (IsJust (Some y) r)
 carried-create true y r bare c = bare
 carried-create false y r bare c = absurd c
@@ -70,7 +70,7 @@ agrees-carried true s r c = agrees-bare s r c
 agrees-carried false s r c = agrees-just s r c
 
 -- a stored service is changed: where it has an address then, it keeps its record
-pub Follows-set : (n : ℕ) (x : Shown) (r : Record) (notices : List Notice) (h : Option Shown) → x.version ≤ n → (is_assigned r ≡ true → r ≡ x.holding)
+pub Follows-set : (n : ℕ) (x : Shown) (r : Record) (notices : List Notice) (h : Option Shown) → x.version ≤ n → (is_given r ≡ true → r ≡ x.holding)
     → Follows (Some x) h notices → Follows (Some (at_next n r)) h (notices ++ Shows (at_next n r) ∷ [])
 Follows-set n x r [] h le keeps f =
     let lt : version_at h < n + 1 = rw f (omega arith) in
@@ -96,7 +96,7 @@ pub after_end-given : (n : ℕ) (h : Option Shown) → version_at h ≤ n → ve
 after_end-given n h a = pick-given (is_unlisted h) None h n (omega arith) a
 
 -- a service is made where none was stored
-pub Follows-create : (n low : ℕ) (r : Record) (notices : List Notice) (h : Option Shown) → is_assigned r ≡ false → version_at h ≤ n → AreGiven low n notices
+pub Follows-create : (n low : ℕ) (r : Record) (notices : List Notice) (h : Option Shown) → is_given r ≡ false → version_at h ≤ n → AreGiven low n notices
     → Follows None h notices → Follows (Some (at_next n r)) h (notices ++ Shows (at_next n r) ∷ [])
 Follows-create n low r [] h bare le given f =
     let lt : version_at h < n + 1 = omega arith in

@@ -1,3 +1,4 @@
+pub mod Again
 pub mod Following
 pub mod Tracking
 pub mod Lanes
@@ -10,9 +11,13 @@ pub mod Takes
 pub mod Turns
 pub mod Clash
 pub mod Unmarked
+pub mod Landing
 pub mod Worlds
 pub mod Rows
 pub mod Places
 pub mod Own
 pub mod Explaining
+pub mod Chains
+pub mod Outside
 pub mod Themselves
+pub mod Bare

@@ -1,5 +1,6 @@
 -- The steps of a world are moves, and keep what holds of it besides.
-use Rattle.std.proofs.Common.{◌≡◌, ◌≢◌, ℕ, ◌+◌, Bool, true, false, cond, List, [], ◌∷◌, ◌++◌, Option, Some, None, is_some, IfSome, refl, sym, ap, subst, ◌∙◌}
+use Rattle.world_rules.proofs.Storing.{given-assigned}
+use Rattle.std.proofs.Common.{◌≡◌, ◌≢◌, ℕ, ◌+◌, Bool, true, false, cond, List, [], ◌∷◌, ◌++◌, Option, Some, None, is_some, IfSome, inl, refl, sym, ap, subst, ◌∙◌}
 use Rattle.std.proofs.lemmas.Bool.{true≢false}
 use Rattle.std.specs.List.{AllByRecursion}
 use Rattle.mlb_base.proofs.Lists.{all-append}
@@ -44,7 +45,7 @@ use Rattle.world_rules.specs.declared.step.ListOrder.TheVariants.{Ascending}
 use Rattle.world_rules.specs.declared.step.Step.TheVariants.{Edit as Edits, Take, Turn as Turns, Crash, Restart, Expire}
 use Rattle.world_rules.specs.Good.{IsOfGroup, ShowsTerms, ConfigEnds, IsFollowed, IsGood, IsOwn}
 use Rattle.world_rules.specs.Laws.{StartsAreOwn, StepsAreMoves, StepsKeepOwn, StoresHaveTerms}
-use Rattle.world_rules.specs.Moves.{Move, Sets, Deletes, Tells, Takes, Stops, Starts, ConfigExpires, ServicesExpire, IsStep}
+use Rattle.world_rules.specs.Moves.{Move, Sets, Deletes, Tells, Takes, Stops, Starts, ConfigExpires, ServicesExpire, IsStep, KeepsOrBares}
 use Rattle.world_rules.specs.Moves.{entries_taken, entries_put, entries_turned, entries_expired, after_start, relisted, but_config, begun}
 use Rattle.world_rules.specs.Moves.{Turns as Makes}
 use Rattle.world_rules.specs.Safe.{HasTerms, SetsTerms}
@@ -90,11 +91,11 @@ expired_core-typed (Some s) group = (tt, tt)
 config_taken : (class : Option (List ℕ)) (store : StoreValue) (config services : List Event) (c : Option State) → c ≢ None → config ≢ []
     → AllByRecursion (IsOfGroup groups.Config) config
     → (let w : WorldValue = record { class = class; store = store; config_lane = config; service_lane = services; core = c } in
-    (move : Move) × IsStep w move (after_take groups.Config w))
+    (move : Move) × IsStep w move (after_take groups.Config w) × KeepsOrBares move w)
 config_taken class store [] services c up some all = absurd (some refl)
 config_taken class store (event ∷ lane) services None up some all = absurd (up refl)
 config_taken class store (event ∷ lane) services (Some s) up some all =
-    (Tells event, record { may = all.0; typed = (config-typed event all.0, tt); leads = refl })
+    (Tells event, record { may = inl all.0; typed = (config-typed event all.0, tt); leads = refl }, tt)
 
 restart_leads : (order : ListOrder) (c : Option State) (w : WorldValue)
     → but_config (restarted order c w) ≡ but_config (after_start c (listing order groups.Service w.store) w)
@@ -144,28 +145,30 @@ set_there object w x =
 
 pub steps_are_moves : StepsAreMoves
 steps_are_moves w (Edits (Set object)) enabled own =
-    (Sets object (kept_record (stored_at w.store.objects (place_of object))), record { may = λ has. refl; typed = tt; leads = refl })
+    (Sets object (kept_record (stored_at w.store.objects (place_of object))), record { may = λ has. refl; typed = tt; leads = refl }, λ has. refl)
 steps_are_moves w (Edits (Reset object)) enabled own = (
   Sets object (record_of object),
   record {
-    may = λ has. absurd (true≢false (sym has ∙ enabled.1));
+    may = λ has. absurd (true≢false (sym (given-assigned (record_of object) has) ∙ enabled.1));
     typed = tt;
     leads = ap (λ (x : Object). but_config (set_there object w x)) (sym (own-record object));
   },
+  λ has. absurd (true≢false (sym has ∙ enabled.1)),
 )
-steps_are_moves w (Edits (Delete kind key)) enabled own = (Deletes kind key, record { may = tt; typed = tt; leads = refl })
+steps_are_moves w (Edits (Delete kind key)) enabled own = (Deletes kind key, record { may = tt; typed = tt; leads = refl }, tt)
 steps_are_moves w (Take groups.Config) enabled own = config_taken w.class w.store w.config_lane w.service_lane w.core enabled.0 enabled.1 own.config
-steps_are_moves w (Take groups.Service) enabled own = (Takes, record { may = tt; typed = taken-typed w.core w.service_lane own.pending_typed; leads = refl })
+steps_are_moves w (Take groups.Service) enabled own = (Takes, record { may = tt; typed = taken-typed w.core w.service_lane own.pending_typed; leads = refl }, tt)
 steps_are_moves w (Take groups.Endpoint) enabled own = absurd (enabled.1 refl)
-steps_are_moves w (Turns outcome) enabled own = (Makes outcome, record { may = tt; typed = turned-typed w.core outcome w.store; leads = refl })
-steps_are_moves w (Crash applied) enabled own = (Stops applied, record { may = tt; typed = tt; leads = refl })
+steps_are_moves w (Turns outcome) enabled own = (Makes outcome, record { may = tt; typed = turned-typed w.core outcome w.store; leads = refl }, tt)
+steps_are_moves w (Crash applied) enabled own = (Stops applied, record { may = tt; typed = tt; leads = refl }, tt)
 steps_are_moves w (Restart order) enabled own =
-    (Starts (listing order groups.Service w.store), record { may = listing-list order w.store; typed = tt; leads = restart_leads order w.core w })
+    (Starts (listing order groups.Service w.store), record { may = listing-list order w.store; typed = tt; leads = restart_leads order w.core w }, tt)
 steps_are_moves w (Expire groups.Config order) enabled own =
-    (ConfigExpires, record { may = tt; typed = expired_core-typed w.core groups.Config; leads = config_leads order w.core w })
+    (ConfigExpires, record { may = tt; typed = expired_core-typed w.core groups.Config; leads = config_leads order w.core w }, tt)
 steps_are_moves w (Expire groups.Service order) enabled own = (
   ServicesExpire (listing order groups.Service w.store),
   record { may = listing-list order w.store; typed = expired_core-typed w.core groups.Service; leads = services_lead order w.core w },
+  tt,
 )
 steps_are_moves w (Expire groups.Endpoint order) enabled own = absurd (enabled.1 refl)
 

@@ -1,4 +1,5 @@
 -- What holds of a world row by row, from what holds of each service.
+use Rattle.world_rules.specs.Tracked.{is_given}
 use Rattle.std.proofs.Common.{◌≡◌, ◌≢◌, ℕ, ◌<◌, Bool, true, false, cond, List, [], ◌∷◌, ◌++◌, Option, Some, None}
 use Rattle.std.proofs.Common.{◌⊎◌, inl, inr, ⊎_elim, option_map, refl, sym, ap, subst, ◌∙◌, arith, MatchBool, IfSome}
 use Rattle.std.specs.List.{Contains}
@@ -383,7 +384,7 @@ module _ (w : WorldValue) (s : State) (stored : IsGoodStore w.store) (up : IsFol
       let x = recorded-at key r rec in
       let t = tracked-at key x.0 x.1 in
       let claimed : IsClaimed (Some x.0) (records_of key s.claims) = match-true _ _ s.held.services_ended ended t.claimed in
-      subst (λ (q : Record). Contains (records_of key s.claims) q) x.2 (claimed (ap is_assigned x.2 ∙ has))
+      subst (λ (q : Record). Contains (records_of key s.claims) q) x.2 (claimed (ap is_given x.2 ∙ has))
 
   listed-there : (key : Key) (r : Record) → IsListed (held_of s key) (notices_in key w.service_lane) r → WillBeShown w s key r
   listed-there key r l =
@@ -410,7 +411,7 @@ module _ (w : WorldValue) (s : State) (stored : IsGoodStore w.store) (up : IsFol
       ⊎_elim
       (λ there. inl (subst (λ (q : Record). Contains (records_of key s.claims) q) x.2 there))
       (λ l. inr (listed-there key r (subst (λ (q : Record). IsListed (held_of s key) (notices_in key w.service_lane) q) x.2 l)))
-      (claimed-or-listed (notices_in key w.service_lane) x.0 (held_of s key) (records_of key s.claims) (ap is_assigned x.2 ∙ has) ends t.follows will)
+      (claimed-or-listed (notices_in key w.service_lane) x.0 (held_of s key) (records_of key s.claims) (ap is_given x.2 ∙ has) ends t.follows will)
 
   both-at : (key : Key) (st : Stored) (held : Versioned Service) → IsStored w.store.objects (service_at key) st → IsHeld s key held
       → IsTracked w.store.counter s.held.services_ended (Some (stored_as st)) (Some (held_as held)) (records_of key s.claims) (notices_in key w.service_lane)
@@ -457,10 +458,10 @@ module _ (w : WorldValue) (s : State) (stored : IsGoodStore w.store) (up : IsFol
   just-recorded false key r (Some x) e f c = (x.holding, record-stored key x e, c)
 
   bare-is : (key : Key) (q : Record) (o : Option Shown) → (x : Shown) × (stored_of w.store key ≡ Some x) × (x.holding ≡ q) → stored_of w.store key ≡ o
-      → IsBare o → is_assigned q ≡ false
+      → IsBare o → is_given q ≡ false
   bare-is key q None x f bare = let none : Some x.0 ≡ None = sym x.1 ∙ f in absurd (cc none)
   bare-is key q (Some y) x f bare = let some : Some x.0 ≡ Some y = sym x.1 ∙ f in let same : x.0 ≡ y = cc in
-      ap is_assigned (sym x.2) ∙ ap (λ (z : Shown). is_assigned z.holding) same ∙ bare
+      ap is_given (sym x.2) ∙ ap (λ (z : Shown). is_given z.holding) same ∙ bare
 
   bare-recorded : (b : Bool) (key : Key) (r : Record) (o : Option Shown) → stored_of w.store key ≡ o → b ≡ true → MatchBool b (IsBare o) (IsJust o r)
       → IsBareIn w.store key

@@ -1,4 +1,5 @@
 -- What holds of each pending notice of a service.
+use Rattle.world_rules.specs.Tracked.{is_given}
 use Rattle.std.proofs.Common.{◌≡◌, ℕ, ◌≤◌, ◌<◌, Bool, true, false, cond, leb, eqb, List, [], ◌∷◌, ◌++◌}
 use Rattle.std.proofs.Common.{Option, Some, None, ◌⊎◌, inl, inr, ⊎_elim, refl, sym, ap, ◌∙◌, arith}
 use Rattle.std.specs.List.{Contains}
@@ -204,11 +205,11 @@ listed-later h z more r l =
       before_end = l.before_end;
     }
 
-bare-unassigned : (x : Shown) → IsBare (Some x) → is_assigned x.holding ≡ true → ⊥
+bare-unassigned : (x : Shown) → IsBare (Some x) → is_given x.holding ≡ true → ⊥
 bare-unassigned x bare has = true≢false (sym has ∙ bare)
 
 -- until the list has ended: a stored address is claimed, or listed
-pub claimed-or-listed : (notices : List Notice) (x : Shown) (h : Option Shown) (claims : List Record) → is_assigned x.holding ≡ true → EndsOnce false notices
+pub claimed-or-listed : (notices : List Notice) (x : Shown) (h : Option Shown) (claims : List Record) → is_given x.holding ≡ true → EndsOnce false notices
     → Follows (Some x) h notices → WillBeClaimed (Some x) h claims notices
     → Contains claims x.holding ⊎ IsListed h notices x.holding
 claimed-or-listed [] x h claims has ends f w = absurd ends

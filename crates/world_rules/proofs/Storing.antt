@@ -1,4 +1,11 @@
 -- Edits and puts keep a good store.
+use Rattle.kube_model.specs.Records.{is_assigned}
+use Rattle.std.specs.Prelude.{is_some}
+use Rattle.sharing_terms.specs.Spelled.{recorded_terms}
+use Rattle.sharing_terms.proofs.ReadBack.{recorded-exact}
+use Rattle.sharing_terms.specs.declared.terms.Terms.{Terms}
+use Rattle.world_rules.specs.Tracked.{is_given}
+pub use Rattle.world_rules.specs.Expected.{record_at, StandsBeside}
 use Rattle.std.proofs.Common.{◌≡◌, ◌≢◌, ◌⊎◌, inl, inr, ⊎_elim, ℕ, ◌+◌, ◌≤◌, Bool, true, false, cond, List, []}
 use Rattle.std.proofs.Common.{◌∷◌, Option, Some, None, is_some, is_eq, refl, sym, ap, subst, ◌∙◌, arith}
 use Rattle.std.proofs.lemmas.Bool.{true≢false, and_parts}
@@ -15,9 +22,8 @@ use Rattle.kube_model.specs.declared.put.Put.{Put}
 use Rattle.kube_model.specs.declared.record.Record.{Record}
 use Rattle.kube_model.specs.declared.service.Service.{Service}
 use Rattle.kube_model.specs.Keys.{same_key}
-use Rattle.kube_model.specs.Records.{is_assigned}
 use Rattle.kube_model.proofs.KeyLaws.{same_key-is, same_key-flip, is_eq-key_cmp}
-use Rattle.sharing_terms.specs.Marked.{AreTerms}
+use Rattle.sharing_terms.specs.Marked.{AreTerms, IsMarkOf}
 use Rattle.sharing_terms.proofs.SharingLaws.{may_share-turned}
 use Rattle.core_laws.proofs.Keyed.{terms-kept}
 use Rattle.core_laws.proofs.Shared.{assigned_by}
@@ -38,9 +44,6 @@ use Rattle.world_rules.specs.World.{store_of}
 use Rattle.world_rules.specs.Good.{IsGoodStore}
 
 -- ---- a store is safe by the record that stands at each key
-abbrev pub record_at : StoreValue → Key → Record
-record_at store key = kept_record (stored_at store.objects (service_at key))
-
 abbrev pub AreSafe : (Key → Record) → Type 0
 AreSafe f = (key other : Key) → key ≢ other → (a : AddressValue) → Contains (f key).addresses a → Contains (f other).addresses a
     → ShareByMarks (f key) (f other)
@@ -59,12 +62,12 @@ pub record-at : (store : StoreValue) → IsWellFormed store → (key : Key) (r :
 record-at store kept key r is = ap kept_record (stored-found store.objects (service_at key) is.0 kept.ascending is.1) ∙ is.2
 
 recorded_at_by : (found : Option Stored) (store : StoreValue) (key : Key) (r : Record) → stored_at store.objects (service_at key) ≡ found
-    → kept_record found ≡ r → is_assigned r ≡ true → IsRecorded store key r
-recorded_at_by None store key r is e has = absurd (true≢false (sym has ∙ ap is_assigned (sym e)))
+    → kept_record found ≡ r → is_given r ≡ true → IsRecorded store key r
+recorded_at_by None store key r is e has = absurd (true≢false (sym has ∙ ap is_given (sym e)))
 recorded_at_by (Some held) store key r is e has = (held, found-stored store.objects (service_at key) held is, e)
 
 -- a record with an address that stands at the key is recorded
-pub recorded-at : (store : StoreValue) (key : Key) (r : Record) → record_at store key ≡ r → is_assigned r ≡ true → IsRecorded store key r
+pub recorded-at : (store : StoreValue) (key : Key) (r : Record) → record_at store key ≡ r → is_given r ≡ true → IsRecorded store key r
 recorded-at store key r e has = recorded_at_by (stored_at store.objects (service_at key)) store key r refl e has
 
 -- what two records share, two that are the same share
@@ -80,26 +83,30 @@ is-safe store kept safe key other apart r q is is' a there there' =
     shared-by r q (record_at store key) (record_at store other) a (record-at store kept key r is) (record-at store kept other q is')
     (safe key other apart a) there there'
 
-none-in : (r : Record) (a : AddressValue) → is_assigned r ≡ false → Contains r.addresses a → ⊥
-none-in r a e there = true≢false (sym (assigned_by r.addresses a there) ∙ e)
+-- a record that is given has an address
+pub given-assigned : (r : Record) → is_given r ≡ true → is_assigned r ≡ true
+given-assigned r has = (and_parts (is_assigned r) (is_some (recorded_terms r.mark)) has).0
 
-turned : (r q : Record) → ShareByMarks r q → ShareByMarks q r
+-- a record with an address and a mark is given
+pub given-marked : (r : Record) (a : AddressValue) (t : Terms) → Contains r.addresses a → IsMarkOf t r.mark → is_given r ≡ true
+given-marked r a t there m = rw (assigned_by r.addresses a there, (recorded-exact r.mark t).1 m) refl
+
+pub none-in : (r : Record) (a : AddressValue) (t : Terms) → is_given r ≡ false → Contains r.addresses a → IsMarkOf t r.mark → ⊥
+none-in r a t e there m = true≢false (sym (given-marked r a t there m) ∙ e)
+
+pub turned : (r q : Record) → ShareByMarks r q → ShareByMarks q r
 turned r q shares t u m n = may_share-turned u t (shares u t n m)
 
 -- where some records go, the rest stays safe
-pub safe-less : (f g : Key → Record) → ((key : Key) → (f key ≡ g key) ⊎ (is_assigned (g key) ≡ false)) → AreSafe f → AreSafe g
+pub safe-less : (f g : Key → Record) → ((key : Key) → (f key ≡ g key) ⊎ (is_given (g key) ≡ false)) → AreSafe f → AreSafe g
 safe-less f g less safe key other apart a there there' =
     ⊎_elim
     (λ same. ⊎_elim
     (λ same'. shared-by (g key) (g other) (f key) (f other) a same same' (safe key other apart a) there there')
-    (λ gone'. absurd (none-in (g other) a gone' there'))
+    (λ gone'. λ t u m n. absurd (none-in (g other) a u gone' there' n))
     (less other))
-    (λ gone. absurd (none-in (g key) a gone there))
+    (λ gone. λ t u m n. absurd (none-in (g key) a t gone there m))
     (less key)
-
--- the record may stand beside those of other keys
-abbrev pub StandsBeside : (Key → Record) → Key → Record → Type 0
-StandsBeside f own r = (other : Key) → other ≢ own → (a : AddressValue) → Contains r.addresses a → Contains (f other).addresses a → ShareByMarks r (f other)
 
 -- a key has a record that may stand beside the others
 pub safe-put : (f g : Key → Record) (own : Key) (r : Record) → ((key : Key) → g key ≡ cond (same_key own key) r (f key)) → StandsBeside f own r → AreSafe f
@@ -161,20 +168,20 @@ pub typed-without_stored : (held : List Stored) (place : Place) → AreTyped hel
 typed-without_stored = all-without_stored (λ (x : Stored). HasTerms x.object)
 
 -- ---- edits
-set_on : (c : Bool) (object : Object) (holding : Record) (store : StoreValue) (key : Key) → is_assigned holding ≡ c
+set_on : (c : Bool) (object : Object) (holding : Record) (store : StoreValue) (key : Key) → is_given holding ≡ c
     → record_of (with_record holding object) ≡ holding
-    → (is_assigned holding ≡ true → holding ≡ record_at store key) → (record_at store key ≡ record_of (with_record holding object))
-    ⊎ (is_assigned (record_of (with_record holding object)) ≡ false)
+    → (is_given holding ≡ true → holding ≡ record_at store key) → (record_at store key ≡ record_of (with_record holding object))
+    ⊎ (is_given (record_of (with_record holding object)) ≡ false)
 set_on true object holding store key e own keeps = inl (sym (own ∙ keeps e))
-set_on false object holding store key e own keeps = inr (ap is_assigned own ∙ e)
+set_on false object holding store key e own keeps = inr (ap is_given own ∙ e)
 
 set_by : (b : Bool) (object : Object) (holding : Record) (store : StoreValue) (key : Key) → is_of (service_at key) (stored_with store object holding) ≡ b
-    → (is_assigned holding ≡ true → holding ≡ kept_record (stored_at store.objects (place_of object)))
+    → (is_given holding ≡ true → holding ≡ kept_record (stored_at store.objects (place_of object)))
     → (record_at store key ≡ kept_record (cond b (Some (stored_with store object holding)) (stored_at store.objects (service_at key))))
-    ⊎ (is_assigned (kept_record (cond b (Some (stored_with store object holding)) (stored_at store.objects (service_at key)))) ≡ false)
+    ⊎ (is_given (kept_record (cond b (Some (stored_with store object holding)) (stored_at store.objects (service_at key)))) ≡ false)
 set_by true object holding store key e keeps =
     let own : place_of object ≡ service_at key = sym (place_of-with_record holding object) ∙ is_of-is (service_at key) (stored_with store object holding) e in
-    set_on (is_assigned holding) object holding store key refl (given-record holding object key own)
+    set_on (is_given holding) object holding store key refl (given-record holding object key own)
     (λ has. keeps has ∙ ap (λ (p : Place). kept_record (stored_at store.objects p)) own)
 set_by false object holding store key e keeps = inl refl
 
@@ -184,16 +191,16 @@ set_store object holding store = record { objects = with_stored (stored_with sto
 
 -- an object that is set leaves each record, or takes its address
 pub set-records : (object : Object) (holding : Record) (store : StoreValue)
-    → (is_assigned holding ≡ true → holding ≡ kept_record (stored_at store.objects (place_of object)))
+    → (is_given holding ≡ true → holding ≡ kept_record (stored_at store.objects (place_of object)))
     → (key : Key) → (record_at store key ≡ record_at (set_store object holding store) key)
-    ⊎ (is_assigned (record_at (set_store object holding store) key) ≡ false)
+    ⊎ (is_given (record_at (set_store object holding store) key) ≡ false)
 set-records object holding store keeps key =
-    subst (λ (x : Option Stored). (record_at store key ≡ kept_record x) ⊎ (is_assigned (kept_record x) ≡ false))
+    subst (λ (x : Option Stored). (record_at store key ≡ kept_record x) ⊎ (is_given (kept_record x) ≡ false))
     (sym (stored_at-with_stored store.objects (stored_with store object holding) (service_at key)))
     (set_by (is_of (service_at key) (stored_with store object holding)) object holding store key refl keeps)
 
 pub good-set_store : (object : Object) (holding : Record) (store : StoreValue)
-    → (is_assigned holding ≡ true → holding ≡ kept_record (stored_at store.objects (place_of object)))
+    → (is_given holding ≡ true → holding ≡ kept_record (stored_at store.objects (place_of object)))
     → IsGoodStore store → IsGoodStore (set_store object holding store)
 good-set_store object holding store keeps good =
     let kept : IsWellFormed (set_store object holding store) = kept-with_stored store (stored_with store object holding) refl good.kept in
@@ -203,21 +210,21 @@ good-set_store object holding store keeps good =
       kept = kept;
     }
 
-gone_by : (b : Bool) (found : Option Stored) → (kept_record found ≡ kept_record (cond b None found)) ⊎ (is_assigned (kept_record (cond b None found)) ≡ false)
+gone_by : (b : Bool) (found : Option Stored) → (kept_record found ≡ kept_record (cond b None found)) ⊎ (is_given (kept_record (cond b None found)) ≡ false)
 gone_by true found = inr refl
 gone_by false found = inl refl
 
-more-by : (b : Bool) (n : ℕ) → n ≤ cond b (n + 1) n
+pub more-by : (b : Bool) (n : ℕ) → n ≤ cond b (n + 1) n
 more-by true n = omega arith
 more-by false n = omega arith
 
 -- a deletion leaves each record, or drops it
 pub delete-records : (kind : Kind) (gone : Key) (store : StoreValue) → IsWellFormed store
     → (key : Key) → (record_at store key ≡ record_at (edited (Delete kind gone) store) key)
-    ⊎ (is_assigned (record_at (edited (Delete kind gone) store) key) ≡ false)
+    ⊎ (is_given (record_at (edited (Delete kind gone) store) key) ≡ false)
 delete-records kind gone store kept key =
     let place : Place = (kind, gone) in
-    subst (λ (x : Option Stored). (record_at store key ≡ kept_record x) ⊎ (is_assigned (kept_record x) ≡ false))
+    subst (λ (x : Option Stored). (record_at store key ≡ kept_record x) ⊎ (is_given (kept_record x) ≡ false))
     (sym (stored_at-without_stored store.objects place (service_at key) kept.ascending))
     (gone_by (is_eq (place_cmp place (service_at key))) (stored_at store.objects (service_at key)))
 
@@ -270,12 +277,12 @@ stored_at-recorded objects held own key r version found =
     ∙ ap (λ (b : Bool). cond b (Some (recorded version r held)) (stored_at objects (service_at key)))
     (here-key held own key r version (found-stored objects (service_at own) held found).1)
 
-put_by : (b : Bool) (version : ℕ) (r : Record) (held : Stored) (found : Option Stored) → record_of (with_record r held.object) ≡ r
+pub put_by : (b : Bool) (version : ℕ) (r : Record) (held : Stored) (found : Option Stored) → record_of (with_record r held.object) ≡ r
     → kept_record (cond b (Some (recorded version r held)) found) ≡ cond b r (kept_record found)
 put_by true version r held found e = e
 put_by false version r held found e = refl
 
-made_by : (b : Bool) (put : Put) (found : Option Stored) (store : StoreValue) → stored_at store.objects (service_at put.key) ≡ found → IsGoodStore store
+pub made_by : (b : Bool) (put : Put) (found : Option Stored) (store : StoreValue) → stored_at store.objects (service_at put.key) ≡ found → IsGoodStore store
     → (b ≡ true → is_some found ≡ true) → StandsBeside (record_at store) put.key put.holding
     → (let after : StoreValue =
     record { objects = cond b (with_put (store.counter + 1) put found store.objects) store.objects; counter = cond b (store.counter + 1) store.counter } in

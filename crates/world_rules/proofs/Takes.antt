@@ -1,6 +1,6 @@
 -- An event that is taken keeps what holds of a world.
 use Rattle.std.proofs.Common.{◌≡◌, ℕ, Bool, true, false, cond, eqb, leb, not, List, [], ◌∷◌, ◌++◌, Option}
-use Rattle.std.proofs.Common.{Some, None, option_map, IfSome, refl, sym, ap, subst, ◌∙◌, leb-true, leb-false}
+use Rattle.std.proofs.Common.{Some, None, option_map, IfSome, ◌⊎◌, inl, inr, refl, sym, ap, subst, ◌∙◌, leb-true, leb-false}
 use Rattle.std.proofs.lemmas.Map.Entries.{option_filter}
 use Rattle.std.specs.List.{AllByRecursion}
 use Rattle.std.specs.List.Sorted.{IsStrictlySortedBy}
@@ -22,7 +22,7 @@ use Rattle.versioned_map.proofs.HeldLaws.{held_at-shown, held_at-removed, held_a
 use Rattle.claim_index.specs.Claims.{ClaimValue, records_in, records_of, claimed_by, settled, claims_of}
 use Rattle.world_rules.proofs.ClaimRecords.{records-either, records_of-settled, records_of-others}
 use Rattle.core_rules.specs.Core.{State, shown_terms}
-use Rattle.core_rules.specs.Take.{core_by, core_take, is_unlisted as was_unlisted}
+use Rattle.core_rules.specs.Take.{core_by, core_take, shows, is_unlisted as was_unlisted}
 use Rattle.core_rules.specs.Run.{Took, observed}
 use Rattle.core_rules.proofs.Claims.{claims_of-kept}
 use Rattle.core_rules.proofs.Effects.{by_effect, config-services, config-services_ended}
@@ -31,14 +31,15 @@ use Rattle.core_laws.specs.Shared.{AllShowTerms}
 use Rattle.core_laws.proofs.Orderly.{sorted-services}
 use Rattle.world_rules.specs.Tracked.{Shown, Notice, Shows, Gone, End, version_at, is_unlisted, EndsOnce, MatchesClaims, IsTracked}
 use Rattle.world_rules.specs.World.{WorldValue, told, untold, after_take}
-use Rattle.world_rules.specs.Moves.{Tells, entries_taken, after_move}
+use Rattle.world_rules.specs.Moves.{Tells, IsOld, entries_taken, after_move}
+use Rattle.world_rules.proofs.Following.{leb-older}
 use Rattle.world_rules.specs.Good.{held_as, stored_of, held_of, notices_in, notices_of, IsTrackedIn, IsOfGroup, IsFollowed, IsGood}
 use Rattle.world_rules.proofs.Tracking.{tracked-newer, tracked-older, tracked-gone, tracked-end}
 use Rattle.world_rules.proofs.Lanes.{tracked-as, here-same}
 use Rattle.sharing_terms.specs.declared.terms.Terms.{Terms}
 
 -- ---- one service, by what the event is about
-held-version : (o : Option (Versioned Service)) → option_map_or (λ (v : Versioned Service). v.version) o 0 ≡ version_at (option_map held_as o)
+pub held-version : (o : Option (Versioned Service)) → option_map_or (λ (v : Versioned Service). v.version) o 0 ≡ version_at (option_map held_as o)
 held-version None = refl
 held-version (Some v) = refl
 
@@ -80,7 +81,7 @@ end_by : (n : ℕ) (st : Option Shown) (o : Option (Versioned Service)) (claims 
 end_by n st None claims notices t = tracked-end n st None claims notices t
 end_by n st (Some v) claims notices t = end_at (eqb v.version 0) n st v claims notices (tracked-end n st (Some (held_as v)) claims notices t)
 
-not-ended : (b : Bool) (notices : List Notice) → EndsOnce b (End ∷ notices) → b ≡ false
+pub not-ended : (b : Bool) (notices : List Notice) → EndsOnce b (End ∷ notices) → b ≡ false
 not-ended true notices e = absurd e
 not-ended false notices e = refl
 
@@ -95,7 +96,7 @@ unlisted_by : (o : Option (Versioned Service)) (claims : List Record) → (o ≡
 unlisted_by None claims none = sym (none refl)
 unlisted_by (Some v) claims none = ap (λ (b : Bool). cond b [] claims) (unlisted_at (eqb v.version 0) v refl)
 
-claimed_by_new : (old : Bool) (key k : Key) (holding : Record) (terms : Terms) (claims : List ClaimValue)
+pub claimed_by_new : (old : Bool) (key k : Key) (holding : Record) (terms : Terms) (claims : List ClaimValue)
     → records_of key (cond (not old) (settled k holding terms claims) claims)
     ≡ cond old (records_of key claims) (cond (same_key k key) (claimed_by holding) (records_of key claims))
 claimed_by_new true key k holding terms claims = refl
@@ -186,7 +187,7 @@ abbrev pub HasSameServices : State → State → Type 0
 HasSameServices t s = (t.held.services ≡ s.held.services) × (t.held.services_ended ≡ s.held.services_ended) × (t.claims ≡ s.claims)
 
 -- an event of the list of the configuration leaves them so
-config-event : (s : State) (event : Event) → IsOfGroup groups.Config event → HasSameServices (core_take s event) s
+pub config-event : (s : State) (event : Event) → IsOfGroup groups.Config event → HasSameServices (core_take s event) s
 config-event s = by_effect (λ event c. IsOfGroup groups.Config event → HasSameServices (core_by c s event) s)
     (λ version service of. absurd (cc))
     (λ gone of. absurd (cc))
@@ -194,6 +195,20 @@ config-event s = by_effect (λ event c. IsOfGroup groups.Config event → HasSam
     (λ event c of. (config-services event s.held c, config-services_ended event s.held c, refl))
     (λ of. absurd of)
     (λ event of. (refl, refl, refl))
+
+-- a service that is shown once more leaves the core as it is
+shown-old : (s : State) (version : ℕ) (service : Service) → leb version (version_held key_cmp s.held.services service.key) ≡ true
+    → core_take s (shows version service) ≡ s
+shown-old s version service old = rw old refl
+
+pub old-event : (s : State) (event : Event) → IsOld event (Some s) → core_take s event ≡ s
+old-event s event is =
+    ap (core_take s) is.2 ∙ shown-old s is.0 is.1 (leb-older is.0 (version_held key_cmp s.held.services is.1.key) is.3)
+
+-- so does whatever the core is told, in its services and their claims
+pub told-event : (s : State) (event : Event) → IsOfGroup groups.Config event ⊎ IsOld event (Some s) → HasSameServices (core_take s event) s
+told-event s event (inl of) = config-event s event of
+told-event s event (inr is) = subst (λ (t : State). HasSameServices t s) (sym (old-event s event is)) (refl, refl, refl)
 
 pub same-tracked : (counter : ℕ) (st : Option Shown) (notices : List Notice) (s t : State) (key : Key) → HasSameServices t s
     → IsTracked counter s.held.services_ended st (held_of s key) (records_of key s.claims) notices
@@ -245,7 +260,7 @@ service_by w (Some s) (event ∷ lane) is typed up = service-up w s event lane i
 pub good-take : (w : WorldValue) → AllShowTerms (entries_taken w.core w.service_lane) → IsGood w → IsGood (after_take groups.Service w)
 good-take w typed good = record { stored = good.stored; up = service_by w w.core w.service_lane refl typed good.up }
 
-config-up : (w : WorldValue) (s : State) (event : Event) → IsOfGroup groups.Config event → AllShowTerms (Took event ∷ []) → IsFollowed w s
+config-up : (w : WorldValue) (s : State) (event : Event) → IsOfGroup groups.Config event ⊎ IsOld event (Some s) → AllShowTerms (Took event ∷ []) → IsFollowed w s
     → (let v : WorldValue = record w { core = Some (core_take s event) } in IsFollowed v (core_take s event))
 config-up w s event of typed up = record {
   run = Took event ∷ up.run;
@@ -255,16 +270,16 @@ config-up w s event of typed up = record {
   none_out = took-out s event ∙ up.none_out;
   services = up.services;
   tracked = λ key.
-      same-tracked w.store.counter (stored_of w.store key) (notices_in key w.service_lane) s (core_take s event) key (config-event s event of) (up.tracked key);
+      same-tracked w.store.counter (stored_of w.store key) (notices_in key w.service_lane) s (core_take s event) key (told-event s event of) (up.tracked key);
 }
 
-config_by : (w : WorldValue) (c : Option State) (event : Event) → IsOfGroup groups.Config event → AllShowTerms (entries_taken c (event ∷ []))
+config_by : (w : WorldValue) (c : Option State) (event : Event) → IsOfGroup groups.Config event ⊎ IsOld event c → AllShowTerms (entries_taken c (event ∷ []))
     → IfSome c (IsFollowed w)
     → (let v : WorldValue = record w { core = option_map (λ s. core_take s event) c } in IfSome (option_map (λ s. core_take s event) c) (IsFollowed v))
 config_by w None event of typed up = tt
 config_by w (Some s) event of typed up = config-up w s event of typed up
 
--- whatever of the configuration is shown
-pub good-tell : (event : Event) (w : WorldValue) → IsOfGroup groups.Config event → AllShowTerms (entries_taken w.core (event ∷ [])) → IsGood w
+-- whatever of the configuration is shown, or of a service once more
+pub good-tell : (event : Event) (w : WorldValue) → IsOfGroup groups.Config event ⊎ IsOld event w.core → AllShowTerms (entries_taken w.core (event ∷ [])) → IsGood w
     → IsGood (after_move (Tells event) w)
 good-tell event w of typed good = record { stored = good.stored; up = config_by w w.core event of typed good.up }

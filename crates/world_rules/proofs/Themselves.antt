@@ -11,7 +11,7 @@ use Rattle.core_rules.specs.Core.{State}
 use Rattle.core_rules.specs.Turn.{core_turn, put_in}
 use Rattle.core_rules.specs.Run.{TranscriptEntry, Turned}
 use Rattle.world_rules.specs.Explaining.{WorldsExplainThemselves, acts_of, answered}
-use Rattle.world_rules.specs.Moves.{Move, Sets, Deletes, Tells, Takes, Turns, Stops, Starts, ConfigExpires, ServicesExpire, EndsLater}
+use Rattle.world_rules.specs.Moves.{Move, Sets, Deletes, Tells, Takes, Turns, Stops, Starts, ConfigExpires, ServicesExpire, EndsLater, Lands}
 use Rattle.world_rules.specs.Moves.{after_move, entries_taken, entries_put, entries_turned, entries_expired, entries_of, run_along, begun}
 use Rattle.world_rules.specs.World.{WorldValue}
 
@@ -50,6 +50,7 @@ move-whole (Starts list) w earlier whole = whole
 move-whole ConfigExpires w earlier whole = expired_core-whole w.core groups.Config earlier whole
 move-whole (ServicesExpire list) w earlier whole = expired_core-whole w.core groups.Service earlier whole
 move-whole (EndsLater before event behind) w earlier whole = whole
+move-whole (Lands put) w earlier whole = whole
 
 run-whole : (moves : List Move) (w : WorldValue) (earlier : List TranscriptEntry) → IsWhole earlier → IsWhole (run_along moves w earlier)
 run-whole [] w earlier whole = whole

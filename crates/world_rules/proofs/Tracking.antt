@@ -1,11 +1,14 @@
 -- How each step keeps what holds of one service.
+use Rattle.kube_model.specs.Records.{is_assigned}
+use Rattle.std.specs.Prelude.{is_some}
+use Rattle.sharing_terms.specs.Spelled.{recorded_terms}
+use Rattle.world_rules.specs.Tracked.{is_given}
 use Rattle.std.proofs.Common.{◌≡◌, ℕ, ◌+◌, ◌≤◌, ◌<◌, Bool, true, false, cond, eqb, List, [], ◌∷◌, ◌++◌}
 use Rattle.std.proofs.Common.{Option, Some, None, refl, sym, ap, subst, ◌∙◌, arith, MatchBool}
-use Rattle.std.proofs.lemmas.Bool.{true≢false}
+use Rattle.std.proofs.lemmas.Bool.{true≢false, and_parts}
 use Rattle.std.specs.List.{Contains}
 use Rattle.mlb_base.proofs.Among.{contains-first}
 use Rattle.kube_model.specs.declared.record.Record.{Record}
-use Rattle.kube_model.specs.Records.{is_assigned}
 use Rattle.claim_index.specs.Claims.{claimed_by}
 use Rattle.world_rules.specs.Tracked.{Shown, Notice, Shows, Gone, End, version_at, IsBare, Agrees, IsBehind, after_end, is_unlisted}
 use Rattle.world_rules.specs.Tracked.{has_gone, MatchesClaims, IsClaimed, WillBeClaimed, AreGiven, EndsOnce, IsTracked}
@@ -62,9 +65,9 @@ IsClaimed-bare None claims bare = tt
 IsClaimed-bare (Some x) claims bare = λ has. absurd (true≢false (sym has ∙ bare))
 
 -- what lasts from one record to another, which has an address only where it is the same
-IsClaimed-same : (x y : Shown) (claims : List Record) → (is_assigned y.holding ≡ true → y.holding ≡ x.holding) → IsClaimed (Some x) claims
+IsClaimed-same : (x y : Shown) (claims : List Record) → (is_given y.holding ≡ true → y.holding ≡ x.holding) → IsClaimed (Some x) claims
     → IsClaimed (Some y) claims
-IsClaimed-same x y claims keeps c = λ has. subst (Contains claims) (sym (keeps has)) (c (ap is_assigned (sym (keeps has)) ∙ has))
+IsClaimed-same x y claims keeps c = λ has. subst (Contains claims) (sym (keeps has)) (c (ap is_given (sym (keeps has)) ∙ has))
 
 WillBeClaimed-bare : (s : Option Shown) (notices : List Notice) (h : Option Shown) (claims : List Record) → IsBare s → WillBeClaimed s h claims notices
 WillBeClaimed-bare s [] h claims bare = IsClaimed-bare s claims bare
@@ -73,7 +76,7 @@ WillBeClaimed-bare s (Gone ∷ more) h claims bare = WillBeClaimed-bare s more _
 WillBeClaimed-bare s (End ∷ more) h claims bare = IsClaimed-bare s claims bare
 
 -- an event after the end of the list changes nothing here
-WillBeClaimed-more : (x y : Shown) (last : List Notice) (notices : List Notice) (h : Option Shown) (claims : List Record) → (is_assigned y.holding ≡ true
+WillBeClaimed-more : (x y : Shown) (last : List Notice) (notices : List Notice) (h : Option Shown) (claims : List Record) → (is_given y.holding ≡ true
     → y.holding ≡ x.holding) → EndsOnce false notices → WillBeClaimed (Some x) h claims notices → WillBeClaimed (Some y) h claims (notices ++ last)
 WillBeClaimed-more x y last [] h claims e ends w = absurd ends
 WillBeClaimed-more x y last (Shows z ∷ more) h claims e ends w = WillBeClaimed-more x y last more _ _ e ends w
@@ -83,7 +86,10 @@ WillBeClaimed-more x y last (End ∷ more) h claims e ends w = IsClaimed-same x 
 -- a claim of the record that is shown is one of what is stored, where they agree
 pub IsClaimed-shown : (s : Option Shown) (r : Record) → Agrees s r → IsClaimed s (claimed_by r)
 IsClaimed-shown None r a = tt
-IsClaimed-shown (Some x) r a = λ has. let e : r ≡ x.holding = a has in rw (e, has) (contains-first x.holding [])
+IsClaimed-shown (Some x) r a = λ has.
+    let e : r ≡ x.holding = a has in
+    let assigned : is_assigned x.holding ≡ true = (and_parts (is_assigned x.holding) (is_some (recorded_terms x.holding.mark)) has).0 in
+    rw (e, assigned) (contains-first x.holding [])
 
 -- more claims than before
 abbrev pub Grows : List Record → List Record → Type 0
@@ -94,7 +100,7 @@ IsClaimed-more None claims more grows c = tt
 IsClaimed-more (Some x) claims more grows c = λ has. grows x.holding (c has)
 
 claimed-set : (ended : Bool) (x y : Shown) (h : Option Shown) (claims : List Record) (notices last : List Notice)
-    → (is_assigned y.holding ≡ true → y.holding ≡ x.holding) → EndsOnce ended notices → MatchBool ended (IsClaimed (Some x) claims)
+    → (is_given y.holding ≡ true → y.holding ≡ x.holding) → EndsOnce ended notices → MatchBool ended (IsClaimed (Some x) claims)
     (WillBeClaimed (Some x) h claims notices) → MatchBool ended (IsClaimed (Some y) claims) (WillBeClaimed (Some y) h claims (notices ++ last))
 claimed-set true x y h claims notices last e ends c = IsClaimed-same x y claims e c
 claimed-set false x y h claims notices last e ends c = WillBeClaimed-more x y last notices h claims e ends c
@@ -131,7 +137,7 @@ tracked-other n ended s h claims notices t =
     }
 
 -- the service is changed: where it has an address then, it keeps its record
-pub tracked-set : (n : ℕ) (ended : Bool) (x : Shown) (r : Record) (h : Option Shown) (claims : List Record) (notices : List Notice) → (is_assigned r ≡ true
+pub tracked-set : (n : ℕ) (ended : Bool) (x : Shown) (r : Record) (h : Option Shown) (claims : List Record) (notices : List Notice) → (is_given r ≡ true
     → r ≡ x.holding) → IsTracked n ended (Some x) h claims notices → IsTracked (n + 1) ended (Some (at_next n r)) h claims (notices ++ Shows (at_next n r) ∷ [])
 tracked-set n ended x r h claims notices keeps t =
     record {
@@ -146,7 +152,7 @@ tracked-set n ended x r h claims notices keeps t =
     }
 
 -- the service is made
-pub tracked-create : (n : ℕ) (ended : Bool) (r : Record) (h : Option Shown) (claims : List Record) (notices : List Notice) → is_assigned r ≡ false
+pub tracked-create : (n : ℕ) (ended : Bool) (r : Record) (h : Option Shown) (claims : List Record) (notices : List Notice) → is_given r ≡ false
     → IsTracked n ended None h claims notices → IsTracked (n + 1) ended (Some (at_next n r)) h claims (notices ++ Shows (at_next n r) ∷ [])
 tracked-create n ended r h claims notices bare t =
     record {
@@ -283,7 +289,7 @@ tracked-accepted n x y r claims notices e t =
 
 -- a put is accepted, and its reply is lost
 pub tracked-lost : (n : ℕ) (x y : Shown) (r : Record) (claims more : List Record) (notices : List Notice) → y.version ≡ x.version → Grows claims more
-    → (is_assigned r ≡ true → Contains more r)
+    → (is_given r ≡ true → Contains more r)
     → IsTracked n true (Some x) (Some y) claims notices → IsTracked (n + 1) true (Some (at_next n r)) (Some y) more (notices ++ Shows (at_next n r) ∷ [])
 tracked-lost n x y r claims more notices e grows own t =
     let old = Follows-old x y notices e t.stored_later t.follows in

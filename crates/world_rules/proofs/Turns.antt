@@ -1,5 +1,8 @@
 -- A turn, its put and the reply keep what holds of a world, and so does a crash.
-use Rattle.std.proofs.Common.{◌≡◌, ℕ, ◌+◌, Bool, true, false, cond, eqb, ◌&&◌, List, [], ◌∷◌, ◌++◌, Option, Some}
+use Rattle.world_rules.proofs.Storing.{given-marked, given-assigned}
+use Rattle.world_rules.specs.Tracked.{is_given}
+use Rattle.world_rules.specs.Safe.{ShareByMarks}
+use Rattle.std.proofs.Common.{◌≡◌, ◌≢◌, ℕ, ◌+◌, Bool, true, false, cond, eqb, ◌&&◌, List, [], ◌∷◌, ◌++◌, Option, Some}
 use Rattle.std.proofs.Common.{None, option_map, is_some, IfSome, MatchBool, refl, sym, ap, subst, ◌∙◌, append-nil}
 use Rattle.std.proofs.lemmas.Bool.{true≢false, and_parts, eqb-true}
 use Rattle.std.proofs.lemmas.List.Elements.{Contains-append_left, Contains-append_right}
@@ -20,7 +23,7 @@ use Rattle.kube_model.specs.declared.reply.PutReply.TheVariants as replies
 use Rattle.kube_model.specs.declared.service.Service.{Service}
 use Rattle.kube_model.specs.Keys.{key_cmp, same_key}
 use Rattle.kube_model.specs.Kinds.{group_of}
-use Rattle.kube_model.specs.Records.{is_assigned, same_record}
+use Rattle.kube_model.specs.Records.{is_assigned}
 use Rattle.kube_model.specs.Service.{with_holding}
 use Rattle.kube_model.proofs.KeyLaws.{key_cmp-total, same_key-is, same_key-itself, is_eq-key_cmp}
 use Rattle.versioned_map.specs.declared.map.Versioned.{Versioned}
@@ -38,8 +41,8 @@ use Rattle.status_store.specs.Changes.{StoreValue, record_of, with_record, kept_
 use Rattle.status_store.specs.Changes.{is_made, with_put, after_put, delivered_reply, reply_to}
 use Rattle.status_store.proofs.StoredLaws.{found-stored}
 use Rattle.core_rules.specs.declared.turn.Turn.TheVariants.{NoPut, Wants}
-use Rattle.core_rules.specs.Core.{State, is_ready}
-use Rattle.core_rules.specs.Turn.{turn_at, turn_of, core_turn, after_turn, put_in, chosen_at, wanted_record, reason_in}
+use Rattle.core_rules.specs.Core.{State, is_ready, has_other}
+use Rattle.core_rules.specs.Turn.{turn_at, turn_of, core_turn, after_turn, put_in, is_kept, chosen_at, wanted_record, reason_in}
 use Rattle.core_rules.specs.Replied.{replied, replied_to, core_reply, put_terms}
 use Rattle.core_rules.specs.Run.{Turned, Heard, core_after, IsRun}
 use Rattle.core_rules.proofs.Claims.{claims_are_shown}
@@ -78,7 +81,7 @@ wanted_by false key version r pending put e =
     (ap (λ (p : Put). p.key) same, ap (λ (p : Put). p.version) same)
 
 -- the service is held at the put's version
-abbrev IsHeldAt : State → Put → Type 0
+abbrev pub IsHeldAt : State → Put → Type 0
 IsHeldAt s put = (h : Versioned Service) × (held_at key_cmp s.held.services put.key ≡ Some h) × (h.version ≡ put.version)
 
 held_by : (found : Option (Versioned Service)) (s : State) (key : Key) (put : Put) → held_at key_cmp s.held.services key ≡ found
@@ -86,13 +89,13 @@ held_by : (found : Option (Versioned Service)) (s : State) (key : Key) (put : Pu
 held_by None s key put is e = absurd (cc)
 held_by (Some h) s key put is e =
     let service = h.object in
-    let parts = wanted_by (same_record (wanted_record service.holding (chosen_at s service)) service.holding) key (version_held key_cmp s.held.services key)
+    let parts = wanted_by (is_kept service.holding (has_other service s.claims) (chosen_at s service)) key (version_held key_cmp s.held.services key)
     (wanted_record service.holding (chosen_at s service)) (reason_in (chosen_at s service)) put e in
     let version : version_held key_cmp s.held.services key ≡ h.version =
     ap (λ (o : Option (Versioned Service)). option_map_or (λ (x : Versioned Service). x.version) o 0) is in
     (h, ap (held_at key_cmp s.held.services) parts.0 ∙ is, sym (parts.1 ∙ version))
 
-held-at : (queue : List Key) (s : State) (put : Put) → put_in (turn_of s queue) ≡ Some put → IsHeldAt s put
+pub held-at : (queue : List Key) (s : State) (put : Put) → put_in (turn_of s queue) ≡ Some put → IsHeldAt s put
 held-at [] s put e = absurd (cc)
 held-at (key ∷ keys) s put e = held_by (held_at key_cmp s.held.services key) s key put refl e
 
@@ -116,7 +119,7 @@ added_by false claims more q there =
     let found = records-from claims q there in
     subst (Contains (records_in (claims ++ more))) found.2 (records-there (claims ++ more) found.0 (Contains-append_left claims more found.0 found.1))
 
-added-grows : (key : Key) (r : Record) (terms : Terms) (claims : List ClaimValue) → Grows (records_in claims) (records_in (added key r terms claims))
+pub added-grows : (key : Key) (r : Record) (terms : Terms) (claims : List ClaimValue) → Grows (records_in claims) (records_in (added key r terms claims))
 added-grows key r terms claims = added_by (list_any (is_under r terms) claims) claims (claim_of key r terms)
 
 own_by : (b : Bool) (key : Key) (r : Record) (terms : Terms) (claims : List ClaimValue) → list_any (is_under r terms) claims ≡ b → is_assigned r ≡ true
@@ -128,19 +131,19 @@ own_by false key r terms claims e has =
     let claim : ClaimValue = record { key = key; holding = r; terms = terms } in
     records-there (claims ++ claim_of key r terms) claim (Contains-append_right claims (claim_of key r terms) claim (claim_of-stands key r terms has))
 
-added-own : (key : Key) (r : Record) (terms : Terms) (claims : List ClaimValue) → is_assigned r ≡ true → Contains (records_in (added key r terms claims)) r
+pub added-own : (key : Key) (r : Record) (terms : Terms) (claims : List ClaimValue) → is_assigned r ≡ true → Contains (records_in (added key r terms claims)) r
 added-own key r terms claims has = own_by (list_any (is_under r terms) claims) key r terms claims refl has
 
 -- the records of a key after a doubt
-records-doubted : (claims : List ClaimValue) (key q : Key) (r : Record) (terms : Terms)
+pub records-doubted : (claims : List ClaimValue) (key q : Key) (r : Record) (terms : Terms)
     → records_of q (doubted key r terms claims) ≡ cond (same_key key q) (records_in (added key r terms (claims_of q claims))) (records_of q claims)
 records-doubted claims key q r terms =
     ap records_in (claims_of-doubted claims key q r terms) ∙ records-either (same_key key q) (added key r terms (claims_of q claims)) (claims_of q claims)
 
-claimed_at : (found : Option Stored) (claims : List Record) (a : AddressValue) → IsClaimed (option_map stored_as found) claims
-    → Contains (kept_record found).addresses a → Contains claims (kept_record found)
-claimed_at None claims a claimed there = absurd (contains-none a there)
-claimed_at (Some held) claims a claimed there = claimed (assigned_by (record_of held.object).addresses a there)
+claimed_at : (found : Option Stored) (claims : List Record) (a : AddressValue) (t : Terms) → IsClaimed (option_map stored_as found) claims
+    → Contains (kept_record found).addresses a → IsMarkOf t (kept_record found).mark → Contains claims (kept_record found)
+claimed_at None claims a t claimed there m = absurd (contains-none a there)
+claimed_at (Some held) claims a t claimed there m = claimed (given-marked (record_of held.object) a t there m)
 
 -- ---- one service, by whether the put is of it
 doubted_by : (z : Bool) (n : ℕ) (st : Option Shown) (o : Option (Versioned Service)) (h : Versioned Service) (claims more : List Record) (notices : List Notice)
@@ -154,7 +157,7 @@ doubted_by true n st o h claims more notices grows is t =
 doubted_by false n st o h claims more notices grows is t = t
 
 -- both are there, at one version
-abbrev AtOneVersion : Option Stored → Option (Versioned Service) → Stored → Versioned Service → Type 0
+abbrev pub AtOneVersion : Option Stored → Option (Versioned Service) → Stored → Versioned Service → Type 0
 AtOneVersion o p g h = (o ≡ Some g) × (p ≡ Some h)
 
 both-there : (n : ℕ) (o : Option Stored) (p : Option (Versioned Service)) (g : Stored) (h : Versioned Service) (claims : List Record) (notices : List Notice)
@@ -178,9 +181,9 @@ accepted_by false n o p g h r claims notices is same own t =
     subst (IsTracked (n + 1) true (option_map stored_as o) (option_map held_as p) claims) (sym (append-nil notices))
     (tracked-other n true (option_map stored_as o) (option_map held_as p) claims notices t)
 
-lost_by : (z : Bool) (n : ℕ) (o : Option Stored) (p : Option (Versioned Service)) (g : Stored) (h : Versioned Service) (r : Record) (claims more : List Record)
+pub lost_by : (z : Bool) (n : ℕ) (o : Option Stored) (p : Option (Versioned Service)) (g : Stored) (h : Versioned Service) (r : Record) (claims more : List Record)
     (notices : List Notice)
-    → Grows claims more → (is_assigned r ≡ true → Contains more r) → (z ≡ true → AtOneVersion o p g h) → h.version ≡ g.version
+    → Grows claims more → (z ≡ true → is_given r ≡ true → Contains more r) → (z ≡ true → AtOneVersion o p g h) → h.version ≡ g.version
     → record_of (with_record r g.object) ≡ r
     → IsTracked n true (option_map stored_as o) (option_map held_as p) claims notices
     → IsTracked (n + 1) true (option_map stored_as (cond z (Some (recorded (n + 1) r g)) o)) (option_map held_as p)
@@ -190,23 +193,23 @@ lost_by true n o p g h r claims more notices grows has is same own t =
     subst (λ (x : Option (Versioned Service)).
     IsTracked (n + 1) true (Some (stored_as (recorded (n + 1) r g))) (option_map held_as x) more (notices ++ Shows (at_next n r) ∷ [])) (sym there.1)
     (subst (λ (q : Record). IsTracked (n + 1) true (Some (at_next n q)) (Some (held_as h)) more (notices ++ Shows (at_next n r) ∷ [])) (sym own)
-    (tracked-lost n (stored_as g) (held_as h) r claims more notices same grows has (both-there n o p g h claims notices there t)))
+    (tracked-lost n (stored_as g) (held_as h) r claims more notices same grows (has refl) (both-there n o p g h claims notices there t)))
 lost_by false n o p g h r claims more notices grows has is same own t =
     subst (IsTracked (n + 1) true (option_map stored_as o) (option_map held_as p) claims) (sym (append-nil notices))
     (tracked-other n true (option_map stored_as o) (option_map held_as p) claims notices t)
 
 -- ---- what a put that was made shows
 module _ (store : StoreValue) (put : Put) where
-  abbrev next : ℕ
+  abbrev pub next : ℕ
   next = store.counter + 1
 
-  abbrev objects_with : Bool → Option Stored → List Stored
+  abbrev pub objects_with : Bool → Option Stored → List Stored
   objects_with b found = cond b (with_put next put found store.objects) store.objects
 
-  abbrev put_shown : Bool → Option Stored → List Event
+  abbrev pub put_shown : Bool → Option Stored → List Event
   put_shown b found = cond b (shown_stored (stored_at (objects_with b found) (service_at put.key))) []
 
-  abbrev stored_now : Option Stored
+  abbrev pub stored_now : Option Stored
   stored_now = stored_at store.objects (service_at put.key)
 
   made-shown : (g : Stored) → stored_now ≡ Some g → put_shown true (Some g) ≡ as_shown (recorded next put.holding g) ∷ []
@@ -221,7 +224,7 @@ module _ (store : StoreValue) (put : Put) where
       ap (λ (x : Object). notices_shown key next (with_record put.holding x)) is.1
       ∙ ap (λ (k : Key). cond (same_key k key) (Shows (at_next store.counter put.holding) ∷ []) []) is.2
 
-  made-lane : (g : Stored) (key : Key) (lane : List Event) → stored_now ≡ Some g
+  pub made-lane : (g : Stored) (key : Key) (lane : List Event) → stored_now ≡ Some g
       → notices_in key (lane ++ put_shown true (Some g))
       ≡ notices_in key lane ++ cond (same_key put.key key) (Shows (at_next store.counter put.holding) ∷ []) []
   made-lane g key lane found =
@@ -235,7 +238,7 @@ stored_of_group : (found : Option Stored) (place : Place) → group_of place.0 �
 stored_of_group None place e at = tt
 stored_of_group (Some held) place e at = (ap (λ (p : Place). group_of p.0) (at held refl) ∙ e, tt)
 
-put-of : (put : Put) (outcome : Outcome) (store : StoreValue) → AllByRecursion (IsOfGroup groups.Service) (shown_put put outcome store)
+pub put-of : (put : Put) (outcome : Outcome) (store : StoreValue) → AllByRecursion (IsOfGroup groups.Service) (shown_put put outcome store)
 put-of put outcome store =
     let objects = (after_put put outcome store).objects in
     all-either (is_made put outcome store.objects) (IsOfGroup groups.Service) (shown_stored (stored_at objects (service_at put.key))) []
@@ -331,7 +334,7 @@ module _ (w : WorldValue) (s : State) (put : Put) (h : Versioned Service) (held 
           (tracked-as _ _ _ _ stored-now refl (records-doubted s.claims put.key key put.holding (put_terms s.held put))
           (made-lane w.store put g key w.service_lane found)
           (lost_by (same_key put.key key) w.store.counter here held_here g h put.holding (records_of key s.claims) more-records (notices_in key w.service_lane)
-          more-grows (added-own put.key put.holding (put_terms s.held put) (claims_of key s.claims)) both-here (at ∙ sym current) own-record ended-up))
+          more-grows (λ _ has. added-own put.key put.holding (put_terms s.held put) (claims_of key s.claims) (given-assigned put.holding has)) both-here (at ∙ sym current) own-record ended-up))
 
     delivered_on : (b : Bool) (g : Stored) → stored_at w.store.objects (service_at put.key) ≡ Some g → eqb g.version put.version ≡ b
         → Result b (Some g) (cond b (replies.Ok (w.store.counter + 1)) replies.Stale)
@@ -362,7 +365,7 @@ module _ (w : WorldValue) (s : State) (put : Put) (wanted : put_in (core_turn s)
   idle : is_ready s.held ≡ false → s.queue ≡ []
   idle = subst (λ (t : State). is_ready t.held ≡ false → t.queue ≡ []) up.leads (queues_are_orderly w.class up.run up.is).empty_unready
 
-  ended-services : s.held.services_ended ≡ true
+  pub ended-services : s.held.services_ended ≡ true
   ended-services =
       ended_of s.held.config_ended s.held.services_ended (is_some s.held.config)
       (ready_by (is_ready s.held) s.queue idle (some-queued s.queue s put wanted))
@@ -386,16 +389,11 @@ module _ (w : WorldValue) (s : State) (put : Put) (wanted : put_in (core_turn s)
   shares : SharesRightly put right.decision.held.object up.run
   shares = puts_share_rightly w.class put turn.0 up.run run up.typed right
 
-  -- whoever else has an address of the put has it by a claim, and shares it
-  beside : StandsBeside (record_at w.store) put.key put.holding
-  beside other apart a in_put in_other t u marked marked' =
-      let q = record_at w.store other in
-      let of_other = up.tracked other in
-      let claimed : IsClaimed (stored_of w.store other) (records_of other s.claims) =
-      subst (λ (b : Bool). MatchBool b (IsClaimed (stored_of w.store other) (records_of other s.claims)) (WillBeClaimed (stored_of w.store other)
-      (held_of s other) (records_of other s.claims) (notices_in other w.service_lane))) ended-services of_other.claimed in
-      let has : Contains (records_of other s.claims) q =
-      claimed_at (stored_at w.store.objects (service_at other)) (records_of other s.claims) a claimed in_other in
+  -- whoever else has an address of the put by a claim shares it
+  pub beside-claimed : (other : Key) → other ≢ put.key → (q : Record) → ((t : Terms) → IsMarkOf t q.mark → Contains (records_of other s.claims) q)
+      → (a : AddressValue) → Contains put.holding.addresses a → Contains q.addresses a → ShareByMarks put.holding q
+  beside-claimed other apart q claimed a in_put in_other t u marked marked' =
+      let has = claimed u marked' in
       let found = records-from (claims_of other s.claims) q has in
       let shown : claims_of other s.claims ≡ may_have other up.run =
       ap (λ (x : State). claims_of other x.claims) (sym up.leads) ∙ claims_are_shown w.class up.run up.is other
@@ -408,6 +406,16 @@ module _ (w : WorldValue) (s : State) (put : Put) (wanted : put_in (core_turn s)
       (shares.shares other apart found.0 (subst (λ (cs : List ClaimValue). Contains cs found.0) shown found.1) a in_put
       (subst (λ (r : Record). Contains r.addresses a) (sym found.2) in_other)))
 
+  -- and so does whoever else is recorded with one, since it has it by a claim
+  pub beside : StandsBeside (record_at w.store) put.key put.holding
+  beside other apart a in_put in_other =
+      let of_other = up.tracked other in
+      let claimed : IsClaimed (stored_of w.store other) (records_of other s.claims) =
+      subst (λ (b : Bool). MatchBool b (IsClaimed (stored_of w.store other) (records_of other s.claims)) (WillBeClaimed (stored_of w.store other)
+      (held_of s other) (records_of other s.claims) (notices_in other w.service_lane))) ended-services of_other.claimed in
+      beside-claimed other apart (record_at w.store other)
+      (λ u marked. claimed_at (stored_at w.store.objects (service_at other)) (records_of other s.claims) a u claimed in_other marked) a in_put in_other
+
   -- a put with an address is marked
   pub put-marked : is_assigned put.holding ≡ true → (t : Terms) × IsMarkOf t put.holding.mark
   put-marked has = (given, shares.marked has)
@@ -415,7 +423,7 @@ module _ (w : WorldValue) (s : State) (put : Put) (wanted : put_in (core_turn s)
   put-stored : (outcome : Outcome) → IsGoodStore w.store → IsGoodStore (after_put put outcome w.store)
   put-stored outcome good = good-put put outcome w.store good beside
 
-  heard : (reply : PutReply) → core_reply (after_turn s) reply ≡ replied (after_turn s) put reply
+  pub heard : (reply : PutReply) → core_reply (after_turn s) reply ≡ replied (after_turn s) put reply
   heard reply = ap (λ (o : Option Put). replied_to o (after_turn s) reply) wanted
 
   put-followed : (outcome : Outcome) → IsGoodStore (after_put put outcome w.store)
@@ -469,7 +477,7 @@ pub good-turn : (outcome : Outcome) (w : WorldValue) → IsGood w → IsGood (af
 good-turn outcome w good = turning_by w.core w outcome good.up good
 
 -- ---- a crash
-reached_by : (found : Option Put) (applied : Bool) (w : WorldValue) (s : State) → put_in (core_turn s) ≡ found → IsFollowed w s → IsGood w
+pub reached_by : (found : Option Put) (applied : Bool) (w : WorldValue) (s : State) → put_in (core_turn s) ≡ found → IsFollowed w s → IsGood w
     → IsGoodStore (reached found applied w.store)
 reached_by None applied w s e up good = good.stored
 reached_by (Some put) applied w s e up good = put-stored w s put e up (Lost applied) good.stored

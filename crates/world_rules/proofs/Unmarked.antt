@@ -18,11 +18,11 @@ use Rattle.status_store.proofs.ChangeLaws.{kept-with_stored}
 use Rattle.core_rules.specs.Core.{State}
 use Rattle.core_rules.specs.Turn.{core_turn, after_turn, put_in}
 use Rattle.world_rules.specs.Moves.{Move, Sets, Deletes, Tells, Takes, Turns, Stops, Starts, ConfigExpires}
-use Rattle.world_rules.specs.Moves.{ServicesExpire, EndsLater, IsMove, after_move, after_start}
+use Rattle.world_rules.specs.Moves.{ServicesExpire, EndsLater, Lands, KeepsOrBares, after_move, after_start}
 use Rattle.world_rules.specs.Good.{IsGood, IsFollowed}
 use Rattle.world_rules.specs.Laws.{RecordsAreGood, UnmarkedStay}
 use Rattle.world_rules.specs.World.{WorldValue, with_object, records_store, turned, after_turning, next_put, reached}
-use Rattle.world_rules.proofs.Storing.{record_at, record-at, recorded-at, set_store, set-records, delete-records, put-record}
+use Rattle.world_rules.proofs.Bare.{record_at, record-at, recorded-at, set_store, set-records, delete-records, put-record}
 use Rattle.world_rules.proofs.Turns.{put-marked}
 use Rattle.world_rules.proofs.Worlds.{steps_keep_good}
 
@@ -81,7 +81,7 @@ start_by : (c : Option State) (list : List Event) (w : WorldValue) → StayUnmar
 start_by None list w = same-records (record_at w.store)
 start_by (Some s) list w = same-records (record_at w.store)
 
-move-unmarked : (move : Move) (w : WorldValue) → IsMove move w → IsGood w → StayUnmarked (record_at w.store) (record_at (after_move move w).store)
+move-unmarked : (move : Move) (w : WorldValue) → KeepsOrBares move w → IsGood w → StayUnmarked (record_at w.store) (record_at (after_move move w).store)
 move-unmarked (Sets object holding) w may good =
     less-records (record_at w.store) (record_at (set_store object holding w.store)) (set-records object holding w.store may)
 move-unmarked (Deletes kind gone) w may good =
@@ -94,9 +94,10 @@ move-unmarked (Starts list) w may good = start_by w.core list w
 move-unmarked ConfigExpires w may good = same-records (record_at w.store)
 move-unmarked (ServicesExpire list) w may good = same-records (record_at w.store)
 move-unmarked (EndsLater before event behind) w may good = same-records (record_at w.store)
+move-unmarked (Lands put) w may good = absurd may
 
 pub unmarked_stay : UnmarkedStay
-unmarked_stay old new move step good key r is unmarked has =
+unmarked_stay old new move step good keeps key r is unmarked has =
     let store : new.store ≡ (after_move move old).store = ap (λ (w : WorldValue). w.store) step.leads in
     let now : record_at new.store key ≡ r = record-at new.store (steps_keep_good old new move step good).stored.kept key r is in
     let after : record_at (after_move move old).store key ≡ r = ap (λ (s : StoreValue). record_at s key) (sym store) ∙ now in
@@ -106,4 +107,4 @@ unmarked_stay old new move step good key r is unmarked has =
     (λ bare. absurd (true≢false (sym has ∙ ap is_assigned (sym after) ∙ bare)))
     (λ marked. let by = marked (ap is_assigned after ∙ has) in absurd (unmarked by.0 (subst (λ (x : Record). IsMarkOf by.0 x.mark) after by.1)))
     rest)
-    (move-unmarked move old step.may good key)
+    (move-unmarked move old keeps good key)

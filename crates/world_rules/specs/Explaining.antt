@@ -18,7 +18,7 @@ use Rattle.core_laws.specs.Shared.{AllShowTerms}
 use Rattle.core_rules.specs.Run.{TranscriptEntry, Took, Expired, Turned, Heard, core_after, put_out, IsRun}
 use Rattle.world_rules.specs.Good.{IsGoodStore}
 use Rattle.world_rules.specs.Moves.{Move, Sets, Deletes, Tells, Takes, Turns, Stops, Starts, ConfigExpires}
-use Rattle.world_rules.specs.Moves.{ServicesExpire, EndsLater, IsListOf, AreMoves, after_moves, run_along, begun}
+use Rattle.world_rules.specs.Moves.{ServicesExpire, EndsLater, Lands, IsListOf, AreMoves, after_moves, run_along, begun}
 use Rattle.world_rules.specs.Safe.{IsSafe}
 use Rattle.world_rules.specs.Laws.{AreSafeAlong}
 use Rattle.world_rules.specs.World.{WorldValue}
@@ -105,6 +105,7 @@ IsRunning (Starts list) = ⊥
 IsRunning ConfigExpires = ⊤
 IsRunning (ServicesExpire list) = ⊤
 IsRunning (EndsLater before event behind) = ⊤
+IsRunning (Lands put) = ⊤
 
 -- A world explains a run of a core: a controller was started over a store that is safe, and was going to be shown a list of its services;
 -- moves were made; and what was shown and answered, and how often a turn was made, is what the run has, but for a last put that has no
@@ -113,7 +114,7 @@ pub record Explains (class : Option (List ℕ)) (store : StoreValue) (list : Lis
   pub good : IsGoodStore store
   pub listed : IsListOf store list
   pub running : AllByRecursion IsRunning moves
-  pub may : AreMoves moves (begun class store list)
+  pub may : AreMoves moves (begun class store list) []
   pub same : acts_of (run_along moves (begun class store list) []) ≡ acts_of (answered run)
 
 -- The core is about to want the put, and then it is the run's.
@@ -146,5 +147,5 @@ RunsAreSafeInWorlds = (class : Option (List ℕ)) (run : List TranscriptEntry) �
 abbrev pub WorldsExplainThemselves : Type 0
 WorldsExplainThemselves =
     (class : Option (List ℕ)) (store : StoreValue) (list : List Event) (moves : List Move) → IsGoodStore store → IsListOf store list
-    → AllByRecursion IsRunning moves → AreMoves moves (begun class store list)
+    → AllByRecursion IsRunning moves → AreMoves moves (begun class store list) []
     → Explains class store list moves (run_along moves (begun class store list) [])

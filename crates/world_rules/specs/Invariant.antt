@@ -11,6 +11,7 @@ use Rattle.kube_model.specs.declared.record.Record.{Record}
 use Rattle.kube_model.specs.declared.service.Service.{Service}
 use Rattle.kube_model.specs.Keys.{key_cmp}
 use Rattle.kube_model.specs.Records.{is_assigned}
+use Rattle.world_rules.specs.Tracked.{is_given}
 use Rattle.versioned_map.specs.declared.map.Versioned.{Versioned}
 use Rattle.versioned_map.specs.Objects.{held_at}
 use Rattle.status_store.specs.declared.stored.Stored.{Stored}
@@ -53,11 +54,11 @@ IsNewer s key version = (held : Versioned Service) → IsHeld s key held → hel
 
 -- the service isn't stored, or without an address
 abbrev pub IsBareIn : StoreValue → Key → Type 0
-IsBareIn store key = (r : Record) → IsRecorded store key r → is_assigned r ≡ false
+IsBareIn store key = (r : Record) → IsRecorded store key r → is_given r ≡ false
 
 -- the service is stored; and where it is with an address, it is with this record
 abbrev pub IsAsShown : StoreValue → Key → Record → Type 0
-IsAsShown store key r = (q : Record) × IsRecorded store key q × (is_assigned q ≡ true → r ≡ q)
+IsAsShown store key r = (q : Record) × IsRecorded store key q × (is_given q ≡ true → r ≡ q)
 
 -- A pending event that shows a service is live where it is going to be held: it is newer than what is held, or a deletion of the service
 -- is pending before it.
@@ -76,7 +77,7 @@ pub record AreCounted (w : WorldValue) (s : State) : Type 0 where
 -- once the list of services has ended: each stored record with an address is claimed for its service
 abbrev pub StoredAreClaimed : WorldValue → State → Type 0
 StoredAreClaimed w s =
-    s.held.services_ended ≡ true → (key : Key) (r : Record) → IsRecorded w.store key r → is_assigned r ≡ true → Contains (records_of key s.claims) r
+    s.held.services_ended ≡ true → (key : Key) (r : Record) → IsRecorded w.store key r → is_given r ≡ true → Contains (records_of key s.claims) r
 
 -- The record is going to be shown before the list of services ends, by an event newer than what is held.
 pub record WillBeShown (w : WorldValue) (s : State) (key : Key) (r : Record) : Type 0 where
@@ -93,7 +94,7 @@ pub record WillBeShown (w : WorldValue) (s : State) (key : Key) (r : Record) : T
 -- until the list of services has ended: each stored record with an address is claimed, or going to be shown
 abbrev pub StoredAreListed : WorldValue → State → Type 0
 StoredAreListed w s =
-    s.held.services_ended ≡ false → (key : Key) (r : Record) → IsRecorded w.store key r → is_assigned r ≡ true
+    s.held.services_ended ≡ false → (key : Key) (r : Record) → IsRecorded w.store key r → is_given r ≡ true
     → Contains (records_of key s.claims) r ⊎ WillBeShown w s key r
 
 -- What is held is what is stored, and neither a newer event nor a deletion is pending.
@@ -121,7 +122,7 @@ pub record LiveAreStored (w : WorldValue) (s : State) : Type 0 where
 abbrev pub DeletedAreBare : WorldValue → State → Type 0
 DeletedAreBare w s =
     (before behind : List Event) (key : Key) → IsPending w before (deletes_service key) behind
-    → (stored : Stored) → IsStored w.store.objects (service_at key) stored → IsNewer s key stored.version × (is_assigned (record_of stored.object) ≡ false)
+    → (stored : Stored) → IsStored w.store.objects (service_at key) stored → IsNewer s key stored.version × (is_given (record_of stored.object) ≡ false)
 
 -- Each held record with an address is claimed for its service, where it is the mark of no terms under those of the held service; and only
 -- held services have claims.
@@ -186,7 +187,7 @@ abbrev pub UnlistedAreShown : WorldValue → State → Type 0
 UnlistedAreShown w s =
     s.held.services_ended ≡ false → (key : Key) (held : Versioned Service) → IsHeld s key held → held.version ≡ 0
     → (stored : Stored) → IsStored w.store.objects (service_at key) stored
-    → WillBeListed w key ⊎ ((is_assigned (record_of stored.object) ≡ false) × WillBeShownAt w key stored.version)
+    → WillBeListed w key ⊎ ((is_given (record_of stored.object) ≡ false) × WillBeShownAt w key stored.version)
 
 -- All rows but that of the list of the configuration.
 pub record IsInOrder (w : WorldValue) (s : State) : Type 0 where

@@ -11,7 +11,7 @@ use Rattle.status_store.specs.Changes.{StoreValue, IsWellFormed, empty_store}
 use Rattle.world_rules.specs.declared.step.Step.{Step}
 use Rattle.world_rules.specs.Good.{IsGood, IsGoodStore, IsOwn}
 use Rattle.world_rules.specs.Invariant.{ConfigEndsOnce, IsInOrder}
-use Rattle.world_rules.specs.Moves.{Move, IsListOf, IsStep, AreMoves, after_move, run_along, begun}
+use Rattle.world_rules.specs.Moves.{Move, KeepsOrBares, IsListOf, IsStep, AreMoves, after_move, run_along, begun}
 use Rattle.world_rules.specs.Safe.{IsRecorded, IsSafe, HasTerms, IsUnmarked, StepsTerms}
 use Rattle.world_rules.specs.World.{WorldValue, IsEnabled, records_store, started, store_of, world_step}
 
@@ -38,7 +38,7 @@ AreSafeAlong (move ∷ moves) w = IsSafeWorld w × AreSafeAlong moves (after_mov
 abbrev pub WorldsAreSafe : Type 0
 WorldsAreSafe =
     (class : Option (List ℕ)) (store : StoreValue) (list : List Event) (moves : List Move) → IsGoodStore store → IsListOf store list
-    → AreMoves moves (begun class store list) → AllShowTerms (run_along moves (begun class store list) [])
+    → AreMoves moves (begun class store list) [] → AllShowTerms (run_along moves (begun class store list) [])
     → AreSafeAlong moves (begun class store list)
 
 -- a store of objects with their records is good, where it is safe: nothing is asked of records that are the mark of no terms
@@ -48,7 +48,7 @@ RecordsAreGood = (objects : List Object) → IsSafe (records_store objects empty
 -- no step gives a service an address under a record that is the mark of no terms
 abbrev pub UnmarkedStay : Type 0
 UnmarkedStay =
-    (old new : WorldValue) (move : Move) → IsStep old move new → IsGood old → (key : Key) (r : Record) → IsRecorded new.store key r → IsUnmarked r
+    (old new : WorldValue) (move : Move) → IsStep old move new → IsGood old → KeepsOrBares move old → (key : Key) (r : Record) → IsRecorded new.store key r → IsUnmarked r
     → is_assigned r ≡ true → IsRecorded old.store key r
 
 -- while the controller is up, a good world is in order, row by row
@@ -76,7 +76,7 @@ StoresHaveTerms =
 
 -- A step that there is, is one of those: it is that move.
 abbrev pub StepsAreMoves : Type 0
-StepsAreMoves = (w : WorldValue) (step : Step) → IsEnabled step w → IsOwn w → (move : Move) × IsStep w move (world_step step w)
+StepsAreMoves = (w : WorldValue) (step : Step) → IsEnabled step w → IsOwn w → (move : Move) × IsStep w move (world_step step w) × KeepsOrBares move w
 
 -- it keeps what holds of such a world besides
 abbrev pub StepsKeepOwn : Type 0

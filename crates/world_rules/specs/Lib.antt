@@ -6,4 +6,7 @@ pub mod Clash
 pub mod Laws
 pub mod Moves
 pub mod Invariant
+pub mod Expected
 pub mod Explaining
+pub mod Chain
+pub mod Outside

@@ -1,6 +1,7 @@
 -- What may happen in a cluster. It is wider than what `World` does in all that an API server and its watches are free in: records that are
 -- emptied, lists in any order, changes shown ahead of a list's end, and whatever is shown of the configuration.
-use Rattle.std.specs.Prelude.{◌≡◌, ◌+◌, ℕ, Bool, true, List, [], ◌∷◌, ◌++◌, map, filter, Option, Some, None, ⊤}
+use Rattle.std.specs.Prelude.{◌≡◌, ◌+◌, ◌≤◌, ◌⊎◌, ℕ, Bool, true, if◌then◌else◌, List, [], ◌∷◌, ◌++◌, map, filter, Option, Some, None, IfSome, is_some, ⊤}
+use Rattle.std.specs.List.{Contains}
 use Rattle.std.specs.Option.{option_map}
 use Rattle.kube_model.specs.declared.event.Event.{Event}
 use Rattle.kube_model.specs.declared.event.Event.TheVariants.{ListEnd}
@@ -11,26 +12,32 @@ use Rattle.kube_model.specs.declared.object.Kind.{Kind}
 use Rattle.kube_model.specs.declared.object.Object.{Object}
 use Rattle.kube_model.specs.declared.put.Put.{Put}
 use Rattle.kube_model.specs.declared.record.Record.{Record}
+use Rattle.kube_model.specs.declared.service.Service.{Service}
+use Rattle.kube_model.specs.Keys.{key_cmp}
 use Rattle.kube_model.specs.Kinds.{kind_of, group_of}
 use Rattle.kube_model.specs.Records.{is_assigned}
+use Rattle.versioned_map.specs.Objects.{version_at}
+use Rattle.world_rules.specs.Tracked.{is_given}
 use Rattle.status_store.specs.declared.change.Edit.TheVariants.{Delete}
 use Rattle.status_store.specs.declared.change.Outcome.{Outcome}
+use Rattle.status_store.specs.declared.change.Outcome.TheVariants.{Delivered, Lost, Refused}
 use Rattle.status_store.specs.declared.stored.Stored.{Stored}
 use Rattle.status_store.specs.Places.{place_of}
 use Rattle.status_store.specs.Objects.{stored_at, with_stored}
-use Rattle.status_store.specs.Changes.{StoreValue, kept_record, with_record, reply_to}
+use Rattle.status_store.specs.Changes.{StoreValue, kept_record, with_record, after_put, reply_to}
 use Rattle.core_rules.specs.Core.{State, fresh}
-use Rattle.core_rules.specs.Take.{core_take}
+use Rattle.core_rules.specs.Take.{core_take, shows}
 use Rattle.core_rules.specs.Turn.{core_turn, put_in}
 use Rattle.core_rules.specs.Run.{TranscriptEntry, Took, Expired, Turned, Heard}
 use Rattle.core_laws.specs.Shared.{AllShowTerms}
 use Rattle.world_rules.specs.Good.{IsOfGroup}
-use Rattle.world_rules.specs.World.{WorldValue, as_shown, is_of_group, while_up, to_lane, after_edit, after_take, after_turning, after_crash, expired_core}
+use Rattle.world_rules.specs.World.{WorldValue, as_shown, is_of_group, while_up, to_lane, shown_put, after_edit, after_take, after_turning, next_put, after_crash}
+use Rattle.world_rules.specs.World.{expired_core}
 
 pub data Move : Type 0 where
   Sets : (object : Object) (holding : Record) → Move  -- somebody sets an object; a service is stored with this record
   Deletes : (kind : Kind) (key : Key) → Move  -- somebody deletes an object
-  Tells : (event : Event) → Move  -- the controller is shown something of the configuration
+  Tells : (event : Event) → Move  -- the controller is shown something of the configuration, or a service once more
   Takes : Move  -- it takes the next event of the services
   Turns : (outcome : Outcome) → Move  -- it makes a turn; where it wants a put, the put goes so, and its reply is heard
   Stops : (applied : Bool) → Move  -- it stops; the put that its next turn would want has reached the store, if it is applied
@@ -38,6 +45,7 @@ pub data Move : Type 0 where
   ConfigExpires : Move  -- the watch of the configuration expires
   ServicesExpire : (list : List Event) → Move  -- that of the services does, and this list is going to be shown
   EndsLater : (before : List Event) (event : Event) (behind : List Event) → Move  -- a change is going to be shown ahead of the list's end
+  Lands : (put : Put) → Move  -- a put that was given up reaches the store after all
 
 -- ---- which moves there are
 
@@ -52,20 +60,67 @@ abbrev pub IsListOf : StoreValue → List Event → Type 0
 IsListOf store list =
     (shown : List Event) × (list ≡ shown ++ ListEnd groups.Service ∷ []) × InAnyOrder (map as_shown (filter (is_of_group groups.Service) store.objects)) shown
 
--- Where it has an address, the record of a service that is set is the one that is stored. Of the configuration the controller may be
--- shown whatever is of it, pending or not, in any order and as often as may be. The end of a list of services, which stands behind what was
--- listed, may come later than changes that were made since.
-abbrev pub IsMove : Move → WorldValue → Type 0
-IsMove (Sets object holding) w = is_assigned holding ≡ true → holding ≡ kept_record (stored_at w.store.objects (place_of object))
-IsMove (Deletes kind key) w = ⊤
-IsMove (Tells event) w = IsOfGroup groups.Config event
-IsMove Takes w = ⊤
-IsMove (Turns outcome) w = ⊤
-IsMove (Stops applied) w = ⊤
-IsMove (Starts list) w = IsListOf w.store list
-IsMove ConfigExpires w = ⊤
-IsMove (ServicesExpire list) w = IsListOf w.store list
-IsMove (EndsLater before event behind) w = w.service_lane ≡ before ++ ListEnd groups.Service ∷ event ∷ behind
+-- the put, if there is one
+abbrev pub puts_in : Option Put → List Put
+puts_in None = []
+puts_in (Some put) = put ∷ []
+
+-- a put whose reply is lost may be under way for a while yet
+abbrev pub given_up : Outcome → Option Put → List Put
+given_up Delivered found = []
+given_up (Lost applied) found = puts_in found
+given_up Refused found = []
+
+-- The puts that are under way after a move, given up by the controller: those whose reply was lost, and the one that was out when it stopped.
+-- Before a new list of the services is begun each of them has ended.
+abbrev pub under_way : Move → WorldValue → List Put → List Put
+under_way (Sets object holding) w late = late
+under_way (Deletes kind key) w late = late
+under_way (Tells event) w late = late
+under_way Takes w late = late
+under_way (Turns outcome) w late = given_up outcome (next_put w.core) ++ late
+under_way (Stops applied) w late = puts_in (next_put w.core) ++ late
+under_way (Starts list) w late = if is_some w.core then late else []
+under_way ConfigExpires w late = late
+under_way (ServicesExpire list) w late = if is_some w.core then [] else late
+under_way (EndsLater before event behind) w late = late
+under_way (Lands put) w late = late
+
+-- the event shows a service that the core holds so, or as it is later
+abbrev pub IsOld : Event → Option State → Type 0
+IsOld event core = (version : ℕ) × (service : Service) × (event ≡ shows version service)
+    × IfSome core (λ s. version ≤ version_at key_cmp s.held.services service.key)
+
+-- Where it has an address and a mark, the record of a service that is set is the one that is stored. Of the configuration the controller may be
+-- shown whatever is of it, pending or not, in any order and as often as may be; and a service once more, no newer than it holds it. The end of a
+-- list of services, which stands behind what was listed, may come later than changes that were made since. Of the puts that are under way each may
+-- land, at any time.
+abbrev pub IsMove : Move → WorldValue → List Put → Type 0
+IsMove (Sets object holding) w late = is_given holding ≡ true → holding ≡ kept_record (stored_at w.store.objects (place_of object))
+IsMove (Deletes kind key) w late = ⊤
+IsMove (Tells event) w late = IsOfGroup groups.Config event ⊎ IsOld event w.core
+IsMove Takes w late = ⊤
+IsMove (Turns outcome) w late = ⊤
+IsMove (Stops applied) w late = ⊤
+IsMove (Starts list) w late = IsListOf w.store list
+IsMove ConfigExpires w late = ⊤
+IsMove (ServicesExpire list) w late = IsListOf w.store list
+IsMove (EndsLater before event behind) w late = w.service_lane ≡ before ++ ListEnd groups.Service ∷ event ∷ behind
+IsMove (Lands put) w late = Contains late put
+
+-- no put lands late, and an edit that sets a service leaves the record that is stored, or one without an address
+abbrev pub KeepsOrBares : Move → WorldValue → Type 0
+KeepsOrBares (Sets object holding) w = is_assigned holding ≡ true → holding ≡ kept_record (stored_at w.store.objects (place_of object))
+KeepsOrBares (Deletes kind key) w = ⊤
+KeepsOrBares (Tells event) w = ⊤
+KeepsOrBares Takes w = ⊤
+KeepsOrBares (Turns outcome) w = ⊤
+KeepsOrBares (Stops applied) w = ⊤
+KeepsOrBares (Starts list) w = ⊤
+KeepsOrBares ConfigExpires w = ⊤
+KeepsOrBares (ServicesExpire list) w = ⊤
+KeepsOrBares (EndsLater before event behind) w = ⊤
+KeepsOrBares (Lands put) w = ⊥
 
 -- ---- what each makes of a world
 
@@ -92,6 +147,11 @@ abbrev pub relisted : Option State → List Event → List Event → List Event
 relisted None list pending = pending
 relisted (Some s) list pending = list
 
+-- a put reaches the store; where it is made, its service is going to be shown to a controller that is up
+abbrev pub after_landing : Put → WorldValue → WorldValue
+after_landing put w =
+    record w { store = after_put put (Lost true) w.store; service_lane = w.service_lane ++ while_up w.core (shown_put put (Lost true) w.store) }
+
 abbrev pub after_move : Move → WorldValue → WorldValue
 after_move (Sets object holding) w = after_set object holding w
 after_move (Deletes kind key) w = after_edit (Delete kind key) w
@@ -103,6 +163,7 @@ after_move (Starts list) w = after_start w.core list w
 after_move ConfigExpires w = record w { core = expired_core groups.Config w.core }
 after_move (ServicesExpire list) w = record w { service_lane = relisted w.core list w.service_lane; core = expired_core groups.Service w.core }
 after_move (EndsLater before event behind) w = record w { service_lane = before ++ event ∷ ListEnd groups.Service ∷ behind }
+after_move (Lands put) w = after_landing put w
 
 -- ---- what each is to the core, the newest first
 
@@ -138,6 +199,7 @@ entries_of (Starts list) w = []
 entries_of ConfigExpires w = entries_expired w.core groups.Config
 entries_of (ServicesExpire list) w = entries_expired w.core groups.Service
 entries_of (EndsLater before event behind) w = []
+entries_of (Lands put) w = []
 
 -- ---- the relation, and lists of moves
 
@@ -145,17 +207,17 @@ entries_of (EndsLater before event behind) w = []
 abbrev pub but_config : WorldValue → WorldValue
 but_config w = record w { config_lane = [] }
 
--- One step from a world to the next: what the move makes of it, where services are shown terms that there can be. Nothing is said of what
+-- One step from a world to the next, while no put is under way: what the move makes of it, where services are shown terms that there can be. Nothing is said of what
 -- is pending of the configuration.
 pub record IsStep (old : WorldValue) (move : Move) (new : WorldValue) : Type 0 where
-  pub may : IsMove move old
+  pub may : IsMove move old []
   pub typed : AllShowTerms (entries_of move old)
   pub leads : but_config new ≡ but_config (after_move move old)
 
--- each of the moves is one
-abbrev pub AreMoves : List Move → WorldValue → Type 0
-AreMoves [] w = ⊤
-AreMoves (move ∷ moves) w = IsMove move w × AreMoves moves (after_move move w)
+-- each of the moves is one, where these puts are under way
+abbrev pub AreMoves : List Move → WorldValue → List Put → Type 0
+AreMoves [] w late = ⊤
+AreMoves (move ∷ moves) w late = IsMove move w late × AreMoves moves (after_move move w) (under_way move w late)
 
 -- the world after these moves, the first of which stands first
 abbrev pub after_moves : List Move → WorldValue → WorldValue

@@ -1,9 +1,14 @@
 -- What a world comes to for one service: what is stored and held of it, what is claimed, and what is still to be shown.
-use Rattle.std.specs.Prelude.{◌≡◌, ℕ, ◌≤◌, ◌<◌, Bool, true, false, ◌==◌, nat_le, if◌then◌else◌, List, [], ◌∷◌, Option, Some, None, MatchBool, ⊤}
+use Rattle.std.specs.Prelude.{◌≡◌, ℕ, ◌≤◌, ◌<◌, Bool, true, false, ◌==◌, ◌&&◌, nat_le, if◌then◌else◌, List, [], ◌∷◌, Option, Some, None, is_some, MatchBool, ⊤}
 use Rattle.std.specs.List.{Contains}
 use Rattle.kube_model.specs.declared.record.Record.{Record}
 use Rattle.kube_model.specs.Records.{is_assigned}
 use Rattle.claim_index.specs.Claims.{claimed_by}
+use Rattle.sharing_terms.specs.Spelled.{recorded_terms}
+
+-- it has an address and a mark
+abbrev pub is_given : Record → Bool
+is_given r = is_assigned r && is_some (recorded_terms r.mark)
 
 -- a version, and the record that was shown at it
 pub record Shown : Type 0 where
@@ -23,12 +28,12 @@ version_at (Some x) = x.version
 -- it isn't stored, or without an address
 abbrev pub IsBare : Option Shown → Type 0
 IsBare None = ⊤
-IsBare (Some x) = is_assigned x.holding ≡ false
+IsBare (Some x) = is_given x.holding ≡ false
 
 -- where it is stored with an address, it is with this record
 abbrev pub Agrees : Option Shown → Record → Type 0
 Agrees None r = ⊤
-Agrees (Some x) r = is_assigned x.holding ≡ true → r ≡ x.holding
+Agrees (Some x) r = is_given x.holding ≡ true → r ≡ x.holding
 
 -- where it is stored, it is at this version or a later one
 abbrev pub IsUpTo : Option Shown → ℕ → Type 0
@@ -63,7 +68,7 @@ has_gone (End ∷ more) = has_gone more
 -- it is stored; and where it is with an address, it is with this record
 abbrev pub IsJust : Option Shown → Record → Type 0
 IsJust None r = ⊥
-IsJust (Some x) r = is_assigned x.holding ≡ true → r ≡ x.holding
+IsJust (Some x) r = is_given x.holding ≡ true → r ≡ x.holding
 
 -- what is shown is the stored record, where that has an address; or a deletion follows, and nothing is stored, or without an address
 abbrev pub IsCarried : Option Shown → Record → List Notice → Type 0
@@ -79,7 +84,7 @@ Follows s h (End ∷ more) = (is_unlisted h ≡ true → IsBare s) × Follows s 
 -- a stored address is claimed with its record
 abbrev pub IsClaimed : Option Shown → List Record → Type 0
 IsClaimed None claims = ⊤
-IsClaimed (Some x) claims = is_assigned x.holding ≡ true → Contains claims x.holding
+IsClaimed (Some x) claims = is_given x.holding ≡ true → Contains claims x.holding
 
 -- so it is once the list of services has ended
 abbrev pub WillBeClaimed : Option Shown → Option Shown → List Record → List Notice → Type 0

@@ -51,7 +51,7 @@ fn take_rest<R: Abort + Wait>(rt: &R, mail: &Mail, inbox: &mut InboxPass, reache
     requires { inbox.old.mail ≡ mail.now }
 {
     for _ in 0..LOOKS {
-        if reached.load(Ordering::SeqCst) == UNTAKEN - 1 {
+        if reached.load(Ordering::SeqCst) == UNTAKEN {
             break;
         }
         yield_now();
@@ -59,7 +59,7 @@ fn take_rest<R: Abort + Wait>(rt: &R, mail: &Mail, inbox: &mut InboxPass, reache
     for _ in 0..1_000 {
         yield_now();
         let last = reached.load(Ordering::SeqCst);
-        assert_eq!(rt; last, UNTAKEN - 1);
+        assert_eq!(rt; last, UNTAKEN);
     }
     take_behind(rt, mail, inbox);
 }

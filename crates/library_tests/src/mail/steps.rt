@@ -26,6 +26,7 @@ pub fn send<R: Abort + Wait>(rt: &R, mail: &Mail, pass: &mut LanePass, lane: Lan
             number,
             event,
         },
+        1,
     );
     let is_sent = sent.is_ok();
     drop(sent);

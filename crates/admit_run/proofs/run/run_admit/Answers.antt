@@ -2,6 +2,7 @@ use Rattle.std.proofs.Common.{subst}
 use Rattle.command_options.specs.Options.{texts_of}
 use Rattle.line_run.specs.Answered.{IsAnswered}
 use Rattle.admit_run.specs.Stream.{admit_rules}
+use Rattle.admit_run.proofs.Right.{writes_rightly}
 use Rattle.admit_run.proofs.Telling.{explained_stops}
 use Rattle.admit_run.proofs.run.run_admit.Goals as goal
 
@@ -15,3 +16,7 @@ run_machine-status-requires g c = record {
 pub returns-clause-stops_at_none : goal.returns-clause-stops_at_none
 returns-clause-stops_at_none g c = explained_stops (texts_of c.args.words.now) c.in-Some.work c.run_machine-status.result _ _ _ c.in-Some.ensures.begun
     (c.run_machine-status.ensures.run.bad_line)
+
+pub returns-clause-only : goal.returns-clause-only
+returns-clause-only g c = λ known.
+    writes_rightly (texts_of c.args.words.now) c.in-Some.work _ _ _ c.in-Some.ensures.begun c.run_machine-status.ensures.run.only

@@ -5,6 +5,7 @@ use Rattle.lane_drive.specs.Asking.{AnswersAll, AsksMore, HasStopped}
 use Rattle.lane_drive.specs.Clauses.{OnlyWrites, TakesWhole, unread}
 use Rattle.lane_run.specs.Outside.{lane_state, outside, source_state}
 use Rattle.controller_run.specs.Lanes.{belongs_to, lane_rules}
+use Rattle.controller_run.proofs.LaneExchanging.{lanes_write_safely}
 use Rattle.controller_run.proofs.LaneEnds.{ends_unbegun, lanes_can_end, writes_nothing}
 use Rattle.controller_run.proofs.RightLanes.{lanes_sound, lanes_quiet}
 use Rattle.controller_run.proofs.lane_files.lanes_controller.Goals as goal
@@ -18,6 +19,11 @@ pub returns-in_default-clause-sound : goal.returns-in_default-clause-sound
 returns-in_default-clause-sound g c =
     let class = option_map (λ t. t.now) c.args.class in
     lanes_sound class _ _ _ _ _ (writes_nothing (fresh class) _ _ _ _)
+
+pub returns-in_default-clause-safe : goal.returns-in_default-clause-safe
+returns-in_default-clause-safe g c =
+    let class = option_map (λ t. t.now) c.args.class in
+    lanes_write_safely class _ _ _ _ _ (writes_nothing (fresh class) _ _ _ _)
 
 pub returns-in_default-clause-complete : goal.returns-in_default-clause-complete
 returns-in_default-clause-complete g c = λ ready opens reads none none'. inr refl
@@ -77,3 +83,12 @@ returns-clause-sound g c =
     (g.S.PacedSource.left c.args.input.now) (g.K.Sink.written c.args.out.now) (g.K.Sink.written c.run_lane_files.new.out) =
     rw c.in-Ok.ensures at c.run_lane_files.ensures.only in
     lanes_sound class _ _ _ _ _ only
+
+pub returns-clause-safe : goal.returns-clause-safe
+returns-clause-safe g c =
+    let class = option_map (λ t. t.now) c.args.class in
+    let only : OnlyWrites belongs_to lane_rules (fresh class) (g.F.WatchedFiles.bytes c.args.files.now c.args.lanes.first.now)
+    (g.F.WatchedFiles.bytes c.args.files.now c.args.lanes.second.now)
+    (g.S.PacedSource.left c.args.input.now) (g.K.Sink.written c.args.out.now) (g.K.Sink.written c.run_lane_files.new.out) =
+    rw c.in-Ok.ensures at c.run_lane_files.ensures.only in
+    lanes_write_safely class _ _ _ _ _ only

@@ -36,16 +36,22 @@ returns-in-None-clause-lanes_complete g c = λ class files say. absurd (c.in-Non
 pub returns-in-None-clause-lanes_sound : goal.returns-in-None-clause-lanes_sound
 returns-in-None-clause-lanes_sound g c = λ class files say. absurd (c.in-None.ensures.none class files say)
 
+pub returns-in-None-clause-lanes_safe : goal.returns-in-None-clause-lanes_safe
+returns-in-None-clause-lanes_safe g c = λ class files say. absurd (c.in-None.ensures.none class files say)
+
 -- ---- a run over two lanes: neither one over one stream nor a trial is asked for
 
 pub returns-in-Some-clause-run : goal.returns-in-Some-clause-run
-returns-in-Some-clause-run g c = λ ask. absurd (lanes_no_run (texts_of c.args.words.now) _ _ c.in-Some.ensures.some ask)
+returns-in-Some-clause-run g c = λ class say. absurd (lanes_no_run (texts_of c.args.words.now) _ _ c.in-Some.ensures.some (class, say))
 
 pub returns-in-Some-clause-only : goal.returns-in-Some-clause-only
-returns-in-Some-clause-only g c = λ ask. absurd (lanes_no_run (texts_of c.args.words.now) _ _ c.in-Some.ensures.some ask)
+returns-in-Some-clause-only g c = λ class say. absurd (lanes_no_run (texts_of c.args.words.now) _ _ c.in-Some.ensures.some (class, say))
+
+pub returns-in-Some-clause-safe : goal.returns-in-Some-clause-safe
+returns-in-Some-clause-safe g c = λ class say. absurd (lanes_no_run (texts_of c.args.words.now) _ _ c.in-Some.ensures.some (class, say))
 
 pub returns-in-Some-clause-quiet : goal.returns-in-Some-clause-quiet
-returns-in-Some-clause-quiet g c = λ ask. absurd (lanes_no_run (texts_of c.args.words.now) _ _ c.in-Some.ensures.some ask)
+returns-in-Some-clause-quiet g c = λ class say. absurd (lanes_no_run (texts_of c.args.words.now) _ _ c.in-Some.ensures.some (class, say))
 
 pub returns-in-Some-clause-trial : goal.returns-in-Some-clause-trial
 returns-in-Some-clause-trial g c = λ seed steps ask. absurd (lanes_no_trial (texts_of c.args.words.now) _ _ c.in-Some.ensures.some seed steps ask)
@@ -74,6 +80,11 @@ pub returns-in-Some-clause-lanes_sound : goal.returns-in-Some-clause-lanes_sound
 returns-in-Some-clause-lanes_sound g c = λ class files say.
     let one = one_lanes (texts_of c.args.words.now) _ class _ files c.in-Some.ensures.some say in
     rw (← one.0, ← one.1) c.lanes_controller.ensures.sound
+
+pub returns-in-Some-clause-lanes_safe : goal.returns-in-Some-clause-lanes_safe
+returns-in-Some-clause-lanes_safe g c = λ class files say.
+    let one = one_lanes (texts_of c.args.words.now) _ class _ files c.in-Some.ensures.some say in
+    rw (← one.1) c.lanes_controller.ensures.safe
 
 pub returns-in-Some-clause-lanes_complete : goal.returns-in-Some-clause-lanes_complete
 returns-in-Some-clause-lanes_complete g c = λ class files say.

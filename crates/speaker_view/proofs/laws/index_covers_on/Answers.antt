@@ -1,5 +1,5 @@
-use Rattle.speaker_view.proofs.Covering.{covers-after}
+use Rattle.speaker_view.proofs.Covering.{covers_after}
 use Rattle.speaker_view.proofs.laws.index_covers_on.Goals as goal
 
 pub returns : goal.returns
-returns c = covers-after
+returns c = covers_after

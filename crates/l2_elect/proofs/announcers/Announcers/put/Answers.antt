@@ -4,5 +4,5 @@ use Rattle.l2_elect.proofs.announcers.Announcers.put.Goals as goal
 
 pub returns : goal.returns
 returns c =
-    rw (← c.self.view_is, ← c.in_ok-node.ensures)
-    (held-now c.self.inside.names.entries c.insert.new.self.entries (Some c.in_ok-node.node) c.args.address.now c.in_ok-insert.ensures.updates.0)
+    rw (← c.self.view_is)
+    (held-now c.self.inside.names.entries c.insert.new.self.entries (Some c.args.winner) c.args.address c.in_ok-insert.ensures.updates.0)

@@ -1,6 +1,6 @@
 use Rattle.std.proofs.Common.{◌≡◌, ap, ◌∙◌}
 use Rattle.object_cache.specs.declared.change.ApplyFault.TheVariants.{Limit}
-use Rattle.l2_elect.proofs.Keeping.{right-but}
+use Rattle.l2_elect.proofs.Keeping.{were-kept}
 use Rattle.speaker_machine.specs.Stream.{SpeakerState, state_of, changes_of}
 use Rattle.speaker_machine.proofs.Parts.{were-routes}
 use Rattle.speaker_machine.proofs.Steps.{no_limit, changes-are, handed_on}
@@ -8,7 +8,7 @@ use Rattle.speaker_machine.proofs.speaker.Speaker.changes_by.Goals as goal
 
 pub told_since-requires-clause-announcers : goal.told_since-requires-clause-announcers
 told_since-requires-clause-announcers c =
-    right-but c.in-Ok.standing.announcers c.self.inside.view c.apply_noting.new.self _ c.in-Ok.ensures.announcers c.in-Ok-apply_noting.ensures.stay
+    were-kept c.in-Ok.standing.announcers c.self.inside.view c.apply_noting.new.self _ c.in-Ok.ensures.announcers c.in-Ok-apply_noting.ensures.stay
 
 pub told_since-requires-clause-routes : goal.told_since-requires-clause-routes
 told_since-requires-clause-routes c = (

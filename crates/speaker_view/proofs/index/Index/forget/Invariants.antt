@@ -6,3 +6,6 @@ invariant-loop-place l = Covers l.self l.cache
 
 abbrev pub invariant-loop-place-2 : goal.invariant-loop-place-2
 invariant-loop-place-2 l = Covers l.self l.cache
+
+abbrev pub invariant-loop-place-3 : goal.invariant-loop-place-3
+invariant-loop-place-3 l = Covers l.self l.cache

@@ -1,19 +1,26 @@
-use Rattle.std.proofs.Common.{◌||◌, ◌∙◌}
+use Rattle.std.proofs.Common.{◌≡◌, ◌∙◌, ap, subst, sym, List, ℕ}
 use Rattle.object_cache.specs.declared.change.TakeNote.{TakeNote}
 use Rattle.speaker_view.specs.declared.change.ViewChange.{ViewChange}
 use Rattle.speaker_view.specs.Change.{is_accepted}
-use Rattle.speaker_view.specs.View.{limit_by}
+use Rattle.speaker_view.specs.Nodes.{AreChangedNodes}
+use Rattle.speaker_view.specs.View.{limit_by, view_after}
+use Rattle.speaker_view.specs.ViewValue.{ViewValue}
 use Rattle.speaker_view.proofs.Applying.{limit-err}
+use Rattle.speaker_view.proofs.ChangedNodes.{event-changes}
 use Rattle.speaker_view.proofs.Staying.{others-stay}
 use Rattle.speaker_view.proofs.view.View.apply_below.Goals as goal
 
+pub returns-in-Ok-apply-clause-nodes : goal.returns-in-Ok-apply-clause-nodes
+returns-in-Ok-apply-clause-nodes c =
+    rw (c.in-Ok-apply.ensures.ok, c.in-Ok.ensures.nodes) (event-changes c.args.self.now c.args.event c.changed_by.ensures.ascending)
+
 pub returns-in-Ok-apply-clause-stay : goal.returns-in-Ok-apply-clause-stay
 returns-in-Ok-apply-clause-stay c =
-    let all = c.changes_all-all.result in
-    others-stay c.args.self.now c.apply.new.self c.args.event (record { all = all; addresses = c.in-Ok.addresses }) c.in-Ok-apply.ensures.ok
-    (λ i. record {
-      all = (c.changes_all-all.ensures ∙ (λ j. is_accepted (c.in-Ok-apply.ensures.note j) || c.reaches_all-reaches_all.ensures j)) i;
-      addresses = c.in-Ok.ensures i;
+    others-stay c.args.self.now c.apply.new.self c.args.event _ c.in-Ok-apply.ensures.ok (record {
+      all = c.is_accepted-all.ensures ∙ ap is_accepted c.in-Ok-apply.ensures.note;
+      nodes = subst (λ (names : List (List ℕ)). AreChangedNodes c.args.self.now (view_after c.args.event c.args.self.now) names)
+          (sym c.in-Ok.ensures.nodes) (event-changes c.args.self.now c.args.event c.changed_by.ensures.ascending);
+      addresses = c.in-Ok.ensures.addresses;
     })
 
 pub returns-in-Err-apply-clause-limit : goal.returns-in-Err-apply-clause-limit

@@ -13,14 +13,18 @@ returns-in-None-clause-value c =
     let covers = subst (λ (v : ViewValue). Covers c.self.inside.index v.held) c.self.view_is c.self.invariant.1 in
     let ascend = subst (λ (v : ViewValue). IsStrictlySortedBy key_cmp (keys_of v.held.services)) c.self.view_is
     (rw (← c.services.ensures) c.len-ascending.ensures.ascending) in
-    served-none c.self.inside.index c.args.self.now covers ascend c.args.address.now c.in-None.ensures
+    let ascend_slices = subst (λ (v : ViewValue). IsStrictlySortedBy key_cmp (keys_of v.held.slices)) c.self.view_is
+    (rw (← c.slices.ensures) c.len-ascend.ensures.ascending) in
+    served-none c.self.inside.index c.args.self.now covers ascend ascend_slices c.args.address.now c.in-None.ensures
 
 pub returns-in-Some-clause-value : goal.returns-in-Some-clause-value
 returns-in-Some-clause-value c =
     let covers = subst (λ (v : ViewValue). Covers c.self.inside.index v.held) c.self.view_is c.self.invariant.1 in
     let ascend = subst (λ (v : ViewValue). IsStrictlySortedBy key_cmp (keys_of v.held.services)) c.self.view_is
     (rw (← c.services.ensures) c.len-ascending.ensures.ascending) in
-    served-some c.self.inside.index c.args.self.now covers ascend c.args.address.now c.serves_one.result c.in-Some.keys.now c.serves_one.ensures
+    let ascend_slices = subst (λ (v : ViewValue). IsStrictlySortedBy key_cmp (keys_of v.held.slices)) c.self.view_is
+    (rw (← c.slices.ensures) c.len-ascend.ensures.ascending) in
+    served-some c.self.inside.index c.args.self.now covers ascend ascend_slices c.args.address.now c.serves_one.result c.in-Some.keys.now c.serves_one.ensures
     c.in-Some.ensures
 
 pub returns-in-None-clause-nowhere : goal.returns-in-None-clause-nowhere

@@ -1,0 +1,6 @@
+//! What fences do in a cluster of any number of controllers.
+#![tactic(auto)]
+
+mod laws;
+
+pub use laws::{fence_follows, fences_are_safe, fences_go_on};

@@ -1,0 +1,9 @@
+pub mod Gone
+pub mod Worlds
+pub mod Steps
+pub mod Sending
+pub mod Safe
+pub mod Among
+pub mod Going
+pub mod Histories
+pub mod Refused

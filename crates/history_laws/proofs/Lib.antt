@@ -1,0 +1,4 @@
+pub mod Stores
+pub mod Explained
+pub mod Seen
+pub mod Further

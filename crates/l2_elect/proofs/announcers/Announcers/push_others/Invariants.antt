@@ -1,0 +1,8 @@
+use Rattle.std.proofs.Common.{◌≡◌, ◌++◌}
+use Rattle.std.specs.List.{flat_map}
+use Rattle.l2_elect.specs.Kept.{unheld_moves_at}
+use Rattle.l2_elect.proofs.announcers.Announcers.push_others.Given as goal
+
+abbrev pub invariant-loop-address : goal.invariant-loop-address
+invariant-loop-address l =
+    l.moves ++ flat_map (unheld_moves_at l.view l.self) l.address-iterator ≡ l.fn.moves ++ flat_map (unheld_moves_at l.view l.self) l.fn.addresses

@@ -1,0 +1,15 @@
+pub mod Left
+pub mod Numbers
+pub mod Counts
+pub mod Doubted
+pub mod Takes
+pub mod Turns
+pub mod Ends
+pub mod Rest
+pub mod Copies
+pub mod Clear
+pub mod Settles
+pub mod Awaiting
+pub mod Starts
+pub mod Staying
+pub mod Explained

@@ -1,0 +1,90 @@
+"""Which edits there are, and when each was last seen refused."""
+from __future__ import annotations
+
+import hashlib
+from collections.abc import Iterable, Iterator
+from dataclasses import dataclass
+from pathlib import Path
+
+HEAD = "crate\tedit\tchecksum\tday"
+PARTS = ("src", "specs", "proofs")
+
+
+@dataclass(frozen=True, order=True)
+class Edit:
+    """An edit of a crate, by their names."""
+
+    crate: str
+    name: str
+
+    def __str__(self) -> str:
+        return f"{self.crate}/{self.name}"
+
+
+@dataclass(frozen=True)
+class Refusal:
+    """The crate's checksum when the edit was last refused, and the day (UTC, as 2026-12-01)."""
+
+    checksum: str
+    day: str
+
+
+def edits_below(top: Path) -> dict[Edit, Path]:
+    """The edits of the gate and those beside it, with their files, in order."""
+    files = [*top.glob("crates/*/must-fail/*.edit"), *top.glob("tests/edits.d/*/*.edit")]
+    return dict(sorted((edit_of(top, file), file) for file in files))
+
+
+def edit_of(top: Path, file: Path) -> Edit:
+    """The edit that the file holds."""
+    parts = file.relative_to(top).parts
+    return Edit(parts[1] if parts[0] == "crates" else parts[2], file.stem)
+
+
+def checksum_of(top: Path, crate: str) -> str:
+    """A checksum of the crate's code, definitions and proofs."""
+    total = hashlib.sha256()
+    for file in sorted(files_of(top / "crates" / crate)):
+        total.update(f"{file.relative_to(top).as_posix()}\0".encode())
+        total.update(hashlib.sha256(file.read_bytes()).digest())
+    return total.hexdigest()[:16]
+
+
+def files_of(crate: Path) -> Iterator[Path]:
+    for part in PARTS:
+        yield from (file for file in (crate / part).rglob("*") if file.is_file())
+
+
+def read_refusals(file: Path) -> dict[Edit, Refusal]:
+    """What the file tells; nothing where there is none. A line that can't be read is left out."""
+    if not file.exists():
+        return {}
+    rows = [line.split("\t") for line in file.read_text().splitlines()[1:]]
+    return {Edit(row[0], row[1]): Refusal(row[2], row[3]) for row in rows if len(row) == 4}
+
+
+def write_refusals(file: Path, refusals: dict[Edit, Refusal]) -> None:
+    """Writes them in the order of the edits. The file is replaced as a whole."""
+    rows = [
+        "\t".join((edit.crate, edit.name, refusal.checksum, refusal.day))
+        for edit, refusal in sorted(refusals.items(), key=lambda pair: pair[0])
+    ]
+    new = file.with_suffix(".new")
+    new.write_text("\n".join([HEAD, *rows]) + "\n")
+    new.replace(file)
+
+
+def stale_edits(
+    top: Path, edits: Iterable[Edit], refusals: dict[Edit, Refusal]
+) -> dict[str, list[str]]:
+    """By crate, the edits that weren't seen refused since it changed, each with the day."""
+    found: dict[str, list[str]] = {}
+    sums: dict[str, str] = {}
+    for edit in edits:
+        refusal = refusals.get(edit)
+        if edit.crate not in sums:
+            sums[edit.crate] = checksum_of(top, edit.crate)
+        if refusal is None or refusal.checksum != sums[edit.crate]:
+            day = "never" if refusal is None else refusal.day
+            found.setdefault(edit.crate, []).append(f"{edit.name} ({day})")
+    return found

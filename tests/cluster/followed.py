@@ -19,7 +19,7 @@ class Lane:
 
 
 class Followed:
-    """Reads a trace (examples/bridge, --trace) as it grows. `news` is told of each line of note that was taken; `pid` is the program of which that is."""
+    """Reads a trace (bridge, --trace) as it grows. `news` is told of each line of note that was taken; `pid` is the program of which that is."""
 
     def __init__(self):
         self.news, self.pid, self.lanes, self.question, self.asked = threading.Condition(), None, {}, None, set()

@@ -20,6 +20,8 @@ class Kind(NamedTuple):
 KINDS = [
     Kind("", "v1", "namespaces", "Namespace", False, True, short=("ns",)),
     Kind("", "v1", "nodes", "Node", False, True, short=("no",)),
+    Kind("", "v1", "secrets", "Secret", True, False),
+    Kind("", "v1", "events", "Event", True, False, short=("ev",)),
     Kind("", "v1", "services", "Service", True, True, short=("svc",)),
     Kind("discovery.k8s.io", "v1", "endpointslices", "EndpointSlice", True, False),
     Kind("coordination.k8s.io", "v1", "leases", "Lease", True, False),
@@ -27,6 +29,7 @@ KINDS = [
     Kind("metallb.io", "v1beta1", "l2advertisements", "L2Advertisement", True, True, True),
     Kind("metallb.io", "v1beta1", "bgpadvertisements", "BGPAdvertisement", True, True, True),
     Kind("metallb.io", "v1beta1", "communities", "Community", True, True, True),
+    Kind("metallb.io", "v1beta1", "bfdprofiles", "BFDProfile", True, True, True),
     Kind("metallb.io", "v1beta2", "bgppeers", "BGPPeer", True, True, True),
 ]
 BY_PLURAL = {kind.plural: kind for kind in KINDS}

@@ -1,4 +1,5 @@
 """HTTP over the store: the paths of an API server, watches, and faults drawn from a seed."""
+import base64
 import json
 import random
 import re
@@ -17,11 +18,13 @@ PATH = re.compile(r"/(?:api|apis/(?P<group>[^/]+))/(?P<version>[^/]+)(?:/namespa
 BOOKMARK_SECONDS, LOOK_SECONDS, LATE_SECONDS = 10, 1, 0.03  # until a bookmark is sent unasked, until a client that went is noticed, of a late event
 END = {"k8s.io/initial-events-end": "true"}
 BEHIND = 2, 10, 50  # changes that a list doesn't have at first
+TRUE = ("1", "t", "T", "true", "True", "TRUE")  # what Go reads as true
+APPLY = "application/apply-patch+yaml"
 
 
 class Faults:
-    """What goes wrong, each a share of the times that it could: replies to changes of a status that are lost, watches that break, expire or are late, and
-    lists that show the last changes as such before their ends."""
+    """What goes wrong, each a share of the times that it could: replies to changes of a status that are lost, or are 504, carried out or not; watches that
+    break, expire or are late, and lists that show the last changes as such before their ends."""
 
     def __init__(self, seed=0, puts=0.0, events=0.0, lists=0.0):
         self.random, self.puts, self.events, self.lists, self.lock = random.Random(seed), puts, events, lists, threading.Lock()
@@ -31,7 +34,7 @@ class Faults:
             return self.random.choice(kinds) if self.random.random() < share else None
 
     def of_put(self, _agent, _key):
-        return self.draw(self.puts, "lost before", "lost behind")
+        return self.draw(self.puts, "lost before", "lost behind", "timed out before", "timed out behind")
 
     def of_event(self, _watch):
         return self.draw(self.events, "breaks", "expires", "is late")
@@ -90,6 +93,7 @@ class Server(ThreadingHTTPServer):
         self.store, self.faults, self.log, self.stopping = store, faults or Faults(), log, False
         self.watches, self.on_watch = [], []  # told of each watch as it begins, the store locked
         self.calls = 0
+        self.page = None  # at most so many objects of a list in one answer, whatever is asked for
 
     @property
     def url(self):
@@ -146,7 +150,8 @@ class Handler(BaseHTTPRequestHandler):
         data = self.rfile.read(int(self.headers.get("Content-Length") or 0))
         if not data:
             return {}
-        if "json" not in (self.headers.get("Content-Type") or "json"):
+        form = self.headers.get("Content-Type") or "json"
+        if "json" not in form and form != APPLY:  # what clients apply is JSON too
             raise Refused(415, "the body of the request was in an unknown format - accepted media types include: application/json")
         try:
             return json.loads(data)
@@ -183,7 +188,7 @@ class Handler(BaseHTTPRequestHandler):
         key = (namespace or "" if kind.namespaced else "", name)
         store = self.server.store
         if self.command == "GET":
-            if name and asked.get("watch") not in ("1", "true"):
+            if name and asked.get("watch") not in TRUE:
                 return self.answer(200, store.get(kind, key))
             return self.listed(kind, Selection(namespace if kind.namespaced else None, name, asked.get("labelSelector", ""),
                                                asked.get("fieldSelector", "")), asked)
@@ -197,19 +202,21 @@ class Handler(BaseHTTPRequestHandler):
             return self.answer(200, store.update(kind, key, body, status))
         if self.command == "PATCH" and name:
             form = (self.headers.get("Content-Type") or "").split(";")[0]
-            if status and kind.name == "Service":
+            if form == APPLY and not status:
+                applied, is_new = store.apply(kind, key, body, asked.get("fieldManager", ""), asked.get("force") in TRUE)
+                return self.answer(201 if is_new else 200, applied)
+            if status and kind.name == "Service" and "status" in body:
                 return self.put(kind, key, body, form)
             return self.answer(200, store.patch(kind, key, body, form, status))
         raise Refused(405, "the server does not allow this method on the requested resource")
 
     def put(self, kind, key, body, form):
-        """A patch of a service's status, whose reply may be lost. Whoever listens is told of it ahead, and of what came of it."""
+        """A patch of a service's status, whose reply may be lost, or be that it took too long. Whoever listens is told of it ahead, and of what came of it."""
         store, agent = self.server.store, self.headers.get("User-Agent", "")
         fault = self.server.faults.of_put(agent, key)
         told = [judge(agent, key, body) for judge in store.on_put]
-        if fault == "lost before":
-            answer = None
-        else:
+        answer = None
+        if fault not in ("lost before", "timed out before"):
             with store.lock:
                 for tell in told:
                     tell("arrives")
@@ -223,9 +230,14 @@ class Handler(BaseHTTPRequestHandler):
             for tell in told:
                 tell("answered", answer)
             return self.answer(*answer)
+        if "timed out" in fault:
+            late = 504, Refused(504, "request did not complete within the allotted timeout", "Timeout").status()
+            for tell in told:
+                tell("answered", late)
+            return self.answer(*late)
         for tell in told:
             tell("lost")
-        self.cut()
+        return self.cut()
 
     def cut(self):
         """Ends the connection without an answer."""
@@ -239,13 +251,37 @@ class Handler(BaseHTTPRequestHandler):
 
     def listed(self, kind, selection, asked):
         store = self.server.store
-        if asked.get("watch") in ("1", "true"):
+        if asked.get("watch") in TRUE:
             return self.watch(kind, selection, asked)
         if asked.get("sendInitialEvents"):
             raise Refused(422, "ListOptions.meta.k8s.io is invalid: sendInitialEvents: Forbidden: sendInitialEvents is forbidden for list")
-        items, version = store.list(kind)
-        told = {"kind": kind.name + "List", "apiVersion": kind.api_version, "metadata": {"resourceVersion": str(version)}}
-        return self.answer(200, {**told, "items": [item for item in items if selection.has(item)]})
+        begin, version = self.begun(asked.get("continue"))
+        with store.lock:
+            items, version = store.list(kind, 0 if version is None else store.version - version)
+        items = [item for item in items if selection.has(item)]
+        size = min(int(asked.get("limit") or 0) or len(items), self.server.page or len(items))
+        metadata = {"resourceVersion": str(version)}
+        if begin + size < len(items):
+            token = json.dumps({"at": begin + size, "version": version}).encode()
+            metadata |= {"continue": base64.urlsafe_b64encode(token).decode(), "remainingItemCount": len(items) - begin - size}
+        told = {"kind": kind.name + "List", "apiVersion": kind.api_version, "metadata": metadata}
+        page = items[begin:begin + size]
+        if not kind.custom:  # the items of built-in kinds don't say what they are
+            page = [{name: value for name, value in item.items() if name not in ("kind", "apiVersion")} for item in page]
+        return self.answer(200, {**told, "items": page})
+
+    def begun(self, token):
+        """Where a page begins, and the version of its list's first page."""
+        if not token:
+            return 0, None
+        try:
+            told = json.loads(base64.urlsafe_b64decode(token))
+            at, version = int(told["at"]), int(told["version"])
+        except (ValueError, KeyError, TypeError) as error:
+            raise Refused(400, f"continue key is not valid: {error}") from error
+        if version < self.server.store.oldest():
+            raise Refused(410, "The provided continue parameter is too old to display a consistent list result.")
+        return at, version
 
     def watch(self, kind, selection, asked):
         initial, given = asked.get("sendInitialEvents"), asked.get("resourceVersion", "")
@@ -263,7 +299,7 @@ class Handler(BaseHTTPRequestHandler):
         self.send_header("Transfer-Encoding", "chunked")
         self.end_headers()
         self.wfile.flush()
-        self.stream = Stream(self, kind, selection, asked.get("allowWatchBookmarks") in ("1", "true"))
+        self.stream = Stream(self, kind, selection, asked.get("allowWatchBookmarks") in TRUE)
         seconds = float(asked.get("timeoutSeconds") or 3600)
         try:
             if self.stream.run(None if begins else int(given or self.server.store.version), initial == "true", time.monotonic() + seconds):

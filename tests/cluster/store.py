@@ -11,6 +11,7 @@ from typing import NamedTuple
 
 import service_rules
 from kinds import BY_NAME, BY_PLURAL, KINDS
+from applying import Applied, Conflict
 from patches import BadPatch, json_patch, merge, strategic
 
 MERGE, STRATEGIC, JSON_PATCH = (f"application/{name}+json" for name in ("merge-patch", "strategic-merge-patch", "json-patch"))
@@ -23,7 +24,7 @@ class Refused(Exception):
 
     def __init__(self, code, message, reason=None):
         super().__init__(message)
-        self.code, self.reason = code, reason or self.REASONS[code]
+        self.code, self.reason = code, reason or self.REASONS.get(code, "InternalError")
 
     def status(self):
         told = {"kind": "Status", "apiVersion": "v1", "metadata": {}, "status": "Failure", "message": str(self), "reason": self.reason}
@@ -58,9 +59,11 @@ class Store:
         self.objects = {kind: {} for kind in KINDS}
         self.version, self.changes, self.history = 0, [], history
         self.on_change, self.on_put = [], []
+        self.applied = Applied()
         self.forbidden = lambda verb, kind, key, body: None  # a text refuses the request (403)
         for name in ("default", "kube-system", "metallb-system"):
             self.create(BY_PLURAL["namespaces"], None, {"metadata": {"name": name, "labels": {"kubernetes.io/metadata.name": name}}})
+        self.create(BY_PLURAL["leases"], "metallb-system", {"metadata": {"name": "controller"}, "spec": {}})  # as the manifest makes it
 
     # What there is
 
@@ -193,6 +196,25 @@ class Store:
             if (thing.get("kind"), thing.get("metadata", {}).get("name")) != (kind.name, key[1]):
                 raise Refused(422, f"{kind.name} is invalid: metadata.name: Invalid value: field is immutable")
             return self.replace(kind, key, old, thing, status, "patch")
+
+    def apply(self, kind, key, body, manager, force):
+        """A server-side apply: the object, and whether it was created by it."""
+        if not manager:
+            raise Refused(422, "PatchOptions.meta.k8s.io is invalid: fieldManager: Required value: is required for apply patch")
+        with self.lock:
+            body = self.named(kind, key[0], {**body, "metadata": {**(body.get("metadata") or {}), "name": key[1]}})
+            old = self.objects[kind].get(key)
+            if old is None:
+                made = self.create(kind, key[0], body)
+                self.applied.keep(kind, key, manager, body)
+                return made, True
+            try:
+                thing = self.applied.merged(kind, key, manager, old, body, force)
+            except Conflict as error:
+                raise Refused(409, str(error), "Conflict") from error
+            made = self.replace(kind, key, old, thing, False, "patch")
+            self.applied.keep(kind, key, manager, body)
+            return made, False
 
     def replace(self, kind, key, old, thing, status, verb):
         """Puts the thing in the old one's place: its status and annotations, or all but its status."""

@@ -1,7 +1,7 @@
 """Judges what a controller does by the store and the requests alone, by the rules of rules.py.
 
 - After each change of a service: two services recorded with one address share it by their recorded marks, where both have one.
-- Each put is what is chosen at some moment. A moment is how far each watch was shown: no further than was written to it, and never back behind
+- Each put is what is chosen at some moment, and at a version of its service none is made behind one that was refused for its version. A moment is how far each watch was shown: no further than was written to it, and never back behind
   the moment of an earlier put. All moments that explain a put are kept, so that one is refused exactly where no history of what was shown, with the
   replies as they were given, has it. What a service may have by a put whose reply was lost counts, until it is shown at another version. Where other
   kinds of the configuration changed since their lists, it isn't followed for which of these a configuration was refused.
@@ -170,10 +170,10 @@ class Judge:
         self.known = {}
         if code == 200:
             self.held[put.key] = version_of(body), put.record
-        elif code in (404, 409):
-            self.awaiting.add((put.key, put.version))
-        else:
+        else:  # whatever the bridge was answered, it may have been sent twice, so `unknown` is said
             self.doubts.append(put)
+            if code in (404, 409):
+                self.awaiting.add((put.key, put.version))
 
     def others(self):
         """The places of the other kinds of the configuration, or None where they changed since their lists: then they may be anywhere between."""

@@ -2,7 +2,7 @@
 import copy
 
 from kinds import BY_NAME
-from rules import ADDRESSES, FROM_POOL, POOL, SHARED, Config, compiled, printed, record_of
+from rules import ADDRESSES, FROM_POOL, HELD_AS, POOL, SHARED, Config, compiled, is_balancer, printed, record_of
 from store import MERGE, Refused
 
 METALLB = "metallb-system"
@@ -23,10 +23,11 @@ def custom(kind, name, spec, **labels):
 
 
 class Users:
-    """Edits of a store. With `speakers` they change endpoints, nodes' labels and advertisements too."""
+    """Edits of a store. With `speakers` they change endpoints, nodes' labels and advertisements too. `lb_class` is the class of most services, and none
+    where it isn't given; the others are of other classes."""
 
-    def __init__(self, store, random, speakers=False):
-        self.store, self.random, self.speakers, self.made = store, random, speakers, 0
+    def __init__(self, store, random, speakers=False, lb_class=None):
+        self.store, self.random, self.speakers, self.lb_class, self.made = store, random, speakers, lb_class, 0
 
     def flip(self, share):
         return self.random.random() < share
@@ -57,12 +58,24 @@ class Users:
                 "status": {"loadBalancer": {"ingress": [{"ip": f"192.0.2.{at // len(PORTS)}"}]}}}
         self.store.patch(kind, key, body, MERGE, True)
 
+    def leave_unmarked(self):
+        """A service of ours gets a record without a mark while all runs, as a controller of MetalLB's leaves it that was started by mistake."""
+        with self.store.lock:
+            ours = [key for key, thing in self.store.objects[BY_NAME["Service"]].items()
+                    if is_balancer(thing) and thing["spec"].get("loadBalancerClass") == self.lb_class]
+            if ours:
+                body = {"metadata": {"annotations": {HELD_AS: None, FROM_POOL: self.random.choice(["p0", "p1", None])}},
+                        "status": {"loadBalancer": {"ingress": [{"ip": self.random.choice(["192.0.2.0", "192.0.2.1", "192.0.2.5", "203.0.113.9"])}]}}}
+                self.store.patch(BY_NAME["Service"], self.random.choice(ours), body, MERGE, True)
+
     # Edits; each is tried, and may be refused as a user's edit is
 
     def edit(self):
         edits = [self.set_service] * 8 + [self.delete_service] * 3 + [self.set_pool] * 2 + [self.delete_pool, self.label_space, self.want_taken, self.give_up]
+        edits += [self.leave_unmarked] + [self.delete_space] * self.flip(0.2)
         if self.speakers:
-            edits += [self.set_slice] * 6 + [self.label_node] * 2 + [self.set_advertisement] * 2 + [self.set_peer]
+            edits += [self.set_slice] * 6 + [self.delete_slice] * 2 + [self.label_node] * 2 + [self.delete_node] * self.flip(0.3)
+            edits += [self.set_advertisement] * 2 + [self.set_peer]
         self.make(edits)
 
     def edit_services(self):
@@ -112,6 +125,25 @@ class Users:
         else:
             self.store.create(kind, key[0], thing)
 
+    def rival(self, key, address):
+        """A service that comes before this one in their order asks for the address that this one is about to have."""
+        kind = BY_NAME["Service"]
+        with self.store.lock:
+            before = [one for one in ((space, name) for space in SPACES for name in NAMES) if one < key]
+            if not before:
+                return
+            thing = copy.deepcopy(self.store.objects[kind].get(before[0]))
+            new = {"metadata": {"name": before[0][1]}, "spec": {"type": "LoadBalancer", "ports": [{"port": 80}], "selector": {"app": "web"}}}
+            if self.lb_class:
+                new["spec"]["loadBalancerClass"] = self.lb_class
+            try:
+                if thing:
+                    self.store.delete(kind, before[0])
+                new["metadata"]["annotations"] = {ADDRESSES: address}
+                self.store.create(kind, before[0][0], new)
+            except Refused:
+                pass
+
     def give_up(self):
         """A service that has an address asks for what it can't have, so that the controller takes the address away; in half of the cases others ask for it
         before."""
@@ -130,6 +162,9 @@ class Users:
         for change in self.CHANGES[:5]:
             if self.flip(0.25):
                 change(self, thing)
+        lb_class = self.lb_class if self.flip(0.85) else self.random.choice(["example.com/other", "example.com/class"])
+        if lb_class:
+            thing["spec"]["loadBalancerClass"] = lb_class
         if self.flip(0.25):
             thing["spec"]["ipFamilies"] = self.random.choice([["IPv6"], ["IPv4", "IPv6"], ["IPv6", "IPv4"]])
             thing["spec"]["ipFamilyPolicy"] = "SingleStack" if len(thing["spec"]["ipFamilies"]) == 1 else self.random.choice(DUAL)
@@ -209,7 +244,20 @@ class Users:
         labels = {"tier": self.random.choice(["front", "back"])} if self.flip(0.8) else {}
         self.store.put({"apiVersion": "v1", "kind": "Namespace", "metadata": {"name": name, "labels": labels}})
 
+    def delete_space(self):
+        """A namespace goes with all that is in it."""
+        self.store.delete(BY_NAME["Namespace"], ("", self.random.choice([name for name in SPACES if name != "default"])))
+
     # What speakers go by
+
+    def delete_slice(self):
+        with self.store.lock:
+            kind = BY_NAME["EndpointSlice"]
+            if keys := list(self.store.objects[kind]):
+                self.store.delete(kind, self.random.choice(keys))
+
+    def delete_node(self):
+        self.store.delete(BY_NAME["Node"], ("", self.random.choice(NODES)))
 
     def set_slice(self):
         self.slice_of(self.random.choice(list(SPACES)), self.random.choice(NAMES))
@@ -281,6 +329,9 @@ class Users:
             return {kind: {key[1]: thing for key, thing in self.store.objects[BY_NAME[kind]].items()} for kind in CONFIG}
 
     def mend(self):
-        """Makes the configuration one that compiles: what is named as its fault is taken away, until there is none."""
+        """Makes the configuration one that compiles: what is named as its fault is taken away, until there is none. Namespaces that are gone come back."""
+        for name, labels in SPACES.items():
+            if ("", name) not in self.store.objects[BY_NAME["Namespace"]]:
+                self.store.put({"apiVersion": "v1", "kind": "Namespace", "metadata": {"name": name, "labels": labels}})
         while not isinstance(fault := compiled(self.objects()), Config):
             self.store.delete(BY_NAME[fault[1]], (METALLB, fault[2]))

@@ -15,8 +15,8 @@ class WireJudge:
     """`nodes` is told by the world: of each node whose speaker runs its next hop and the hardware address of each interface; and `followed` how far
     each speaker has come (followed.py)."""
 
-    def __init__(self, store, links, routers, nodes, followed):
-        self.store, self.links, self.routers, self.nodes, self.followed = store, links, routers, nodes, followed
+    def __init__(self, store, links, routers, nodes, followed, lb_class=None):
+        self.store, self.links, self.routers, self.nodes, self.followed, self.lb_class = store, links, routers, nodes, followed, lb_class
         self.asked = 0
 
     def sight(self):
@@ -24,7 +24,7 @@ class WireJudge:
         with self.store.lock:
             by_name = {kind: {key[1]: thing for key, thing in self.store.objects[BY_NAME[kind]].items()} for kind in (*CONFIG, "Node")}
             services, slices = (list(self.store.objects[BY_NAME[kind]].values()) for kind in ("Service", "EndpointSlice"))
-        return Sight(compiled(by_name), services, slices, by_name["Node"], sorted(self.nodes()))
+        return Sight(compiled(by_name), services, slices, by_name["Node"], sorted(self.nodes()), self.lb_class)
 
     def left(self):
         """What isn't as it must be behind `ask`, a line each."""
@@ -82,15 +82,14 @@ class WireJudge:
         return (found and sight.announcer(found)) or "none"
 
     def untold(self):
-        """Addresses whose announcer has told nobody since it began."""
+        """Addresses of which their announcer has told nobody since it began, by an interface on which it listens for them."""
         lines, nodes = [], self.nodes()
         for address in self.addresses:
             node = self.seen.announcer(address)
             if node:
                 with self.links.lock:
-                    told = any(unasked(address, hardware) in self.links.told.get(f"{node}-{interface}", ()) for interface, hardware in nodes[node][1].items())
-                if not told:
-                    lines.append(f"UNTOLD {printed(address)} by {node}")
+                    lines += [f"UNTOLD {printed(address)} by {node}-{interface}" for interface, hardware in nodes[node][1].items()
+                              if self.seen.listens(address, node, interface) and unasked(address, hardware) not in self.links.told.get(f"{node}-{interface}", ())]
         return lines
 
     def wrong_routes(self):

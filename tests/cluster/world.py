@@ -1,5 +1,7 @@
 """One small cluster in this process: its store and server, the bridges with their programs, and what goes wrong with them."""
+import collections
 import contextlib
+import json
 import os
 import pathlib
 import random
@@ -12,6 +14,7 @@ import threading
 import time
 
 from followed import Followed
+from hop import PASS, Fate, Hop
 from kinds import BY_NAME
 from serving import Faults, Server
 from store import Store
@@ -21,7 +24,7 @@ from wire import Links, Router
 from wire_judge import WireJudge
 
 TOP = pathlib.Path(__file__).resolve().parents[2]
-BRIDGE = TOP / "examples/bridge"
+BRIDGE = TOP / "bridge"
 PATIENCE = 600.0  # seconds in which all must be still; else there is no verdict
 SLOW = 30.0  # seconds without stillness behind which the machine is looked at anew, and again behind as many
 TURNS, STAYS = 20, 3.0  # what is left is a difference once all programs took note so many times, and in so many seconds, that nothing changes any more
@@ -138,41 +141,53 @@ class Calls:
 
 
 class Plague(Faults):
-    """Faults of requests and watches, and stops of the controller at the worst moments of its puts."""
+    """Faults of requests and watches, changes of statuses that are forbidden, and stops of the controller at the worst moments of its puts."""
 
     def __init__(self, seed, puts, events, lists, stops):
         super().__init__(seed, puts, events, lists)
-        self.stops, self.stop = stops, lambda: None
+        self.stops, self.forbidden, self.stop = stops, 0.0, lambda: None
+
+    def of_change(self, verb, kind, _key, _body):
+        return "made up" if verb == "patch/status" and kind.name == "Service" and self.draw(self.forbidden, True) else None
 
     def of_put(self, agent, key):
         if self.draw(self.stops, True):
             self.stop()
-            return self.draw(1, "lost before", "lost behind", "lost before", "lost behind", None)
+            return self.draw(1, "lost before", "lost behind", "timed out before", "timed out behind", None)
         return super().of_put(agent, key)
 
     def calm(self):
-        self.puts = self.events = self.lists = self.stops = 0.0
+        self.puts = self.events = self.lists = self.stops = self.forbidden = 0.0
 
 
 class World:
     """A cluster with a controller. `round` lets users edit and things go wrong for a while, and judges what is left once all is still. A round has as many
     edits as would come in so many seconds if they took no time; on a slow machine it takes longer."""
-    SECONDS = 0.5, 2
+    SECONDS, STAYS = (0.5, 2), STAYS
 
     def __init__(self, seed, controller=None, trace=None):
         self.seed, self.random, self.patience, self.trace = seed, random.Random(seed), PATIENCE, trace
+        self.lb_class = self.random.choice((None, None, "example.com/class"))
         self.store = Store(history=200)
         self.faults = Plague(seed, 0.0, 0.0, 0.0, 0.0)
         self.server = Server(self.store, faults=self.faults).start()
-        self.judge = Judge(self.server)
-        self.users = Users(self.store, self.random)
-        self.kills = self.speaker_kills = self.rounds = 0
+        self.judge = self.make_judge()
+        self.users = Users(self.store, self.random, lb_class=self.lb_class)
+        self.store.forbidden = self.faults.of_change
+        self.kills = self.speaker_kills = self.rounds = self.cuts = 0
         self.begin()
         self.users.begin()
-        words = ["--program", controller or program_of("mlb_controller"), "--unknown-wait", "0.05"]
-        self.bridge = Bridge(["controller", "--server", self.server.url, *words], LANES["controller"], kept=self.kept("controller"))
-        self.bridge.until_started()
+        self.words = ["--program", controller or program_of("mlb_controller"), "--lease-seconds", "0.5", "--refused-pause", "0.01", "--without-pools"]
+        self.words += ["--lb-class", self.lb_class] if self.lb_class else []
+        self.begin_bridges()
         self.faults.stop = self.stop_controller
+
+    def begin_bridges(self):
+        self.bridge = Bridge(["controller", "--server", self.server.url, *self.words], LANES["controller"], kept=self.kept("controller"))
+        self.bridge.until_started()
+
+    def make_judge(self):
+        return Judge(self.server, lb_class=self.lb_class)
 
     def begin(self):
         """What a cluster has besides."""
@@ -193,7 +208,7 @@ class World:
 
     def round(self):
         """One round; the lines of what is wrong."""
-        self.faults.puts, self.faults.events, self.faults.lists, self.faults.stops = 0.2, 0.03, 0.5, 0.15
+        self.faults.puts, self.faults.events, self.faults.lists, self.faults.stops, self.faults.forbidden = 0.2, 0.03, 0.5, 0.15, 0.05
         until, pace = time.monotonic() + LONGEST_ROUND, self.random.choice([0.01, 0.03, 0.1])
         for _ in range(round(self.random.uniform(*self.SECONDS) / pace)):
             if time.monotonic() > until or self.judge.faults:
@@ -221,6 +236,10 @@ class World:
             self.users.edit_services()
             time.sleep(self.random.uniform(0, 0.02))
         self.faults.calm()
+
+    def troubles(self):
+        """How many requests went wrong on their way."""
+        return 0
 
     def slow(self):
         """What is done where it takes long until all is still."""
@@ -252,7 +271,7 @@ class World:
                 if turns <= looked or left[0].startswith(NO_VERDICT) or not stays:
                     since, stays = (now, turns), set(map(text_of, left))
                 looked = turns
-                if now > since[0] + STAYS and turns >= since[1] + TURNS:
+                if now > since[0] + self.STAYS and turns >= since[1] + TURNS:
                     return [*(line for line in left if text_of(line) in stays), *self.bridge.told]
             if now > begun + self.patience:
                 return [f"{NOT_STILL} after {self.patience} s, and so without a verdict", *left, *self.bridge.told]
@@ -261,6 +280,146 @@ class World:
 
     def stop(self):
         self.bridge.stop()
+        self.server.stop()
+
+
+class Weather:
+    """What becomes of requests at a hop: that share of the changes doesn't go well."""
+    OF_ALL = [Fate("cut"), Fate("lose"), Fate("lose"), Fate("twice"), Fate("twice"), Fate("twice"), Fate("refuse", 500), Fate("refuse", 504), Fate("refuse", 429)]
+    OF_SERVICES = [Fate("refuse", status) for status in (401, 403, 422)]
+
+    def __init__(self, seed):
+        self.random, self.share, self.counts, self.lock = random.Random(seed), 0.0, collections.Counter(), threading.Lock()
+
+    def strikes(self):
+        with self.lock:
+            return self.random.random() < 0.7
+
+    def length(self):
+        """Seconds that a trouble lasts: less or more than a Lease."""
+        with self.lock:
+            return self.random.choice((0.2, 1.5, 3.0)) * self.random.random()
+
+    def __call__(self, request):
+        with self.lock:
+            if self.random.random() >= self.share or request.method not in ("PATCH", "PUT"):
+                return PASS
+            late = Fate("late", seconds=self.random.uniform(0, 1))
+            held = Fate("hold", seconds=self.random.uniform(0.5, 6))
+            silent = [Fate("stall"), Fate("mute")] if not request.is_put and self.random.random() < 0.1 else []  # puts are waited for so long
+            fate = self.random.choice([*self.OF_ALL, *self.OF_SERVICES * request.is_change, late, *4 * [held], *silent])
+            self.counts[fate.what] += 1
+            return fate
+
+
+class PairWorld(World):
+    """A cluster with two controllers, each behind a hop of its own that loses, holds back, resends and refuses its requests. They are cut off, stopped for a
+    while and killed with their programs. What counts is the store alone: whether two services share an address, and what is left in the end."""
+    SECONDS, COUNT, STAYS = (1.0, 3.0), 2, 15.0
+
+    def __init__(self, seed, controller=None, trace=None):
+        self.weather, self.timers = Weather(seed), []
+        super().__init__(seed, controller, trace)
+
+    def make_judge(self):
+        judge = Judge(self.server, "nobody", self.lb_class)
+        self.store.on_put.append(lambda *_: self.count_put(judge))
+        return judge
+
+    @staticmethod
+    def count_put(judge):
+        judge.puts += 1
+        return lambda *_: None
+
+    def begin_bridges(self):
+        self.hops = [Hop(self.server.server_address[1], lambda request, at=at: self.fate(at, request)) for at in range(self.COUNT)]
+        self.pair = [self.start_at(at) for at in range(self.COUNT)]
+
+    def start_at(self, at):
+        words = ["controller", "--server", self.hops[at].url, *self.words]
+        return Bridge(words, LANES["controller"], kept=self.kept(f"controller{at}"))
+
+    @property
+    def bridge(self):
+        return next((bridge for bridge in self.pair if bridge.program is not None), self.pair[0])
+
+    def bridges(self):
+        return [bridge for bridge in self.pair if bridge.program is not None] or self.pair[:1]
+
+    def troubles(self):
+        return sum(self.weather.counts.values())
+
+    def later(self, call, *words):
+        timer = threading.Timer(self.weather.length(), call, words)
+        self.timers.append(timer)
+        timer.start()
+
+    def fate(self, at, request):
+        """What becomes of a request at this hop. Where a put is held back, its bridge is struck in most cases: so it comes behind what a successor is shown."""
+        fate = self.weather(request)
+        if fate.what == "hold" and request.is_put and self.weather.share and self.weather.strikes():
+            hop = self.hops[at]
+            self.want_the_same(request)
+            if self.weather.strikes():
+                hop.is_down = True
+                hop.close_all()
+                self.cuts += 1
+                self.later(hop.mend)
+            else:
+                self.kills += self.pair[at].kill()
+                return Fate("keep", seconds=fate.seconds)
+        return fate
+
+    def want_the_same(self, request):
+        """Another service asks for what the put is to give."""
+        ingress = json.loads(request.body)["status"]["loadBalancer"]["ingress"]
+        if ingress:
+            *_, namespace, _, name, _ = request.path.split("/")
+            self.users.rival((namespace, name), ingress[0]["ip"])
+
+    def stop_controller(self):
+        """At a put: the program is killed, or the bridge, or it is cut off or stands still."""
+        self.harm()
+
+    def harm(self):
+        at = self.random.randrange(self.COUNT)
+        bridge, hop = self.pair[at], self.hops[at]
+        for _ in range(self.random.choice((0, 0, 4, 12))):  # a rush, so that one put follows the other
+            self.users.edit_services()
+        match self.random.choice(("program", "program", "bridge", "cut", "cut", "still")):
+            case "program":
+                self.kills += bridge.kill()
+            case "bridge":
+                bridge.end()
+                self.pair[at] = self.start_at(at)
+                self.kills += 1
+            case "cut":
+                hop.cut()
+                self.cuts += 1
+                self.later(hop.mend)
+            case "still":
+                bridge.process.send_signal(signal.SIGSTOP)
+                self.cuts += 1
+                self.later(bridge.process.send_signal, signal.SIGCONT)
+
+    def round(self):
+        self.weather.share = self.random.choice((0.05, 0.2, 0.5))
+        return super().round()
+
+    def heal(self):
+        for timer in self.timers:
+            timer.join()
+        self.timers.clear()
+        self.weather.share = 0.0
+
+    def stop(self):
+        for timer in self.timers:
+            timer.join()
+        for bridge in self.pair:
+            bridge.stop()
+        for hop in self.hops:
+            hop.cut()
+            hop.stop()
         self.server.stop()
 
 
@@ -286,7 +445,8 @@ class SpeakerWorld(World):
         self.routers = {name: Router(lambda name=name: self.users.peer_number(name)) for name in ("q0", "q1")}
         self.users.router_ports = {name: router.port for name, router in self.routers.items()}
         self.speakers, self.lease = {}, lease_seconds()
-        self.wire = WireJudge(self.store, self.links, self.routers, self.running, lambda: {node: bridge.followed for node, bridge in self.speakers.items()})
+        self.wire = WireJudge(self.store, self.links, self.routers, self.running, lambda: {node: bridge.followed for node, bridge in self.speakers.items()},
+                              self.lb_class)
         self.users.begin_speakers()
         for node in NODES:
             self.start_speaker(node)
@@ -309,7 +469,7 @@ class SpeakerWorld(World):
         words = ["--node-name", node, "--next-hop", hops[4], "--next-hop-v6", hops[6], "--lease-seconds", str(self.lease), "--bgp-retry", "0.2"]
         for name, hardware in self.hardware(node).items():
             words += ["--interface", f"{name}={hardware.hex(':')}", "--link", f"{name}={self.folder.name}"]
-        words = ["speaker", "--server", self.server.url, "--program", self.speaker, *words]
+        words = ["speaker", "--server", self.server.url, "--program", self.speaker, *words, *(["--lb-class", self.lb_class] if self.lb_class else [])]
         self.speakers[node] = Bridge(words, LANES["speaker"], lambda: self.links.forget(node), self.kept(node))
 
     def harm(self):

@@ -1,0 +1,334 @@
+"""The watches of a lane: they begin with what there is, go on where they broke, and begin anew
+where they can't."""
+import asyncio
+import contextlib
+import json
+import logging
+from collections.abc import AsyncGenerator, Awaitable, Callable
+from contextlib import aclosing
+from typing import Protocol
+
+from api import SILENCE, Broken, Json, NotSent, Refused
+from common import tell, together, warn
+from guard import POOL, NotYet, PoolGuard
+from host import Pause
+from reading import read
+
+FIRST = ("watch=1&sendInitialEvents=true&resourceVersionMatch=NotOlderThan"
+         "&allowWatchBookmarks=true")
+NEXT = "watch=1&resourceVersion={}&allowWatchBookmarks=true"
+ANEW: Json = {"type": "ERROR", "object": {}}  # lists begin anew
+ERROR = b'{"type":"ERROR","object":{}}\n'
+FIRST_PAUSE, LONGEST_PAUSE = 0.1, 30.0  # seconds before a watch that broke is asked for again
+REFUSED_PAUSE, EMPTY_PAUSE = 2.0, 2.0  # and before one that was refused, or isn't to end yet
+AWAITED_TOLD = 15.0  # seconds until it is told which lists are awaited and what is kept back
+GAPS, SHORTEST_SILENCE = 2.5, 30.0  # times a server's pause between bookmarks: then it is silent
+UNSERVED = (400, 422)  # answers of a server that doesn't begin watches with what there is
+WATCHED_LABELS = ("Namespace", "Node")  # kinds of which nothing but labels is read
+Key = tuple[str | None, str | None]
+FaultOf = Callable[[Json, bytes], Awaitable[str | None]]
+Note = Callable[[int, Json], None]
+
+
+class Expired(Exception):
+    """A watch can't go on from what was given of it."""
+
+
+class Source(Protocol):
+    """What lines are asked of: an API server (api.py)."""
+
+    def lines(self, path: str,
+              silence: Callable[[], float] = lambda: SILENCE) -> AsyncGenerator[bytes, None]:
+        """The lines of a watch."""
+
+    def listed(self, path: str) -> AsyncGenerator[bytes, None]:
+        """A list as the lines of a watch."""
+
+
+class Taker(Protocol):
+    """What is given lines: a lane of a program (lanes.py)."""
+
+    @property
+    def name(self) -> str:
+        """What it is called."""
+
+    @property
+    def given(self) -> int:
+        """How many lines it was given."""
+
+    async def give(self, line: bytes) -> int:
+        """Gives a line, and tells its number."""
+
+    async def until_taken(self, number: int) -> object:
+        """Waits until the line of this number was taken."""
+
+
+def config_paths(namespace: str) -> dict[str, str]:
+    own = f"/apis/metallb.io/{{}}/namespaces/{namespace}/{{}}"
+    return {
+        POOL: own.format("v1beta1", "ipaddresspools"),
+        "L2Advertisement": own.format("v1beta1", "l2advertisements"),
+        "BGPAdvertisement": own.format("v1beta1", "bgpadvertisements"),
+        "Community": own.format("v1beta1", "communities"),
+        "BGPPeer": own.format("v1beta2", "bgppeers"),
+        "Namespace": "/api/v1/namespaces",
+    }
+
+
+SERVICE_PATHS = {"Service": "/api/v1/services"}
+HOLD_NOTHING_BACK = (POOL, "Service", "EndpointSlice")
+SPEAKER_PATHS = {"Node": "/api/v1/nodes",
+                 "EndpointSlice": "/apis/discovery.k8s.io/v1/endpointslices"}
+
+
+def ends_list(event: Json) -> bool:
+    annotations = event["object"].get("metadata", {}).get("annotations") or {}
+    return bool(event["type"] == "BOOKMARK"
+                and annotations.get("k8s.io/initial-events-end") == "true")
+
+
+def key_of(event: Json) -> Key:
+    metadata = event["object"]["metadata"]
+    return metadata.get("namespace"), metadata.get("name")
+
+
+def readable(line: bytes) -> tuple[Json, bytes]:
+    """An event and its line. What isn't one has come through something that broke it."""
+    try:
+        event, line = read(line)
+        if event["type"] == "ERROR" or event["object"]["metadata"]["resourceVersion"]:
+            return event, line
+    except (ValueError, KeyError, TypeError, AttributeError) as fault:
+        raise Broken("a line of a watch is no event") from fault
+    raise Broken("a line of a watch has no version")
+
+
+def hold(held: dict[Key, bytes], event: Json, line: bytes) -> None:
+    """Takes a line of a list that hasn't ended into those that are held back: the last one of each
+    object that is there."""
+    if event["type"] == "DELETED":
+        held.pop(key_of(event), None)
+    elif event["type"] != "BOOKMARK":
+        held[key_of(event)] = line
+
+
+class Gap:
+    """How long a watch may be silent: some times as long as between its last two bookmarks."""
+
+    def __init__(self) -> None:
+        self.last, self.seconds = 0.0, SILENCE
+
+    def limit(self) -> float:
+        return self.seconds
+
+    def note(self) -> None:
+        now = asyncio.get_running_loop().time()
+        if self.last:
+            self.seconds = min(SILENCE, max(SHORTEST_SILENCE, GAPS * (now - self.last)))
+        self.last = now
+
+
+class Watched:
+    """One watch: the version from which it goes on, and what was told of it."""
+
+    def __init__(self, kind: str, path: str) -> None:
+        self.kind, self.path = kind, path
+        self.version: str | None = None
+        self.pause, self.gap = Pause(FIRST_PAUSE, LONGEST_PAUSE), Gap()
+        self.told: int | None = None
+        self.labels: dict[Key, object] = {}  # of the objects of which nothing else is read
+
+    def changes_nothing(self, event: Json) -> bool:
+        """Whether the line shows the labels that the last one of its object showed."""
+        if self.kind not in WATCHED_LABELS or event["type"] == "BOOKMARK":
+            return False
+        labels = event["object"]["metadata"].get("labels") or {}
+        if event["type"] == "DELETED":
+            self.labels.pop(key_of(event), None)
+            return False
+        is_same = self.labels.get(key_of(event)) == labels
+        self.labels[key_of(event)] = labels
+        return is_same
+
+
+class Watches:
+    """`until_quiet` waits until no put is out that could still be stored. `fault_of` tells of a
+    line why it would end the program, or nothing: such a line is kept from it. `note` is told of
+    each line's number and event ahead of its being given. `guard` is asked of pools."""
+
+    def __init__(self, api: Source, lane: Taker, paths: dict[str, str], fault_of: FaultOf,
+                 until_quiet: Callable[[], Awaitable[object]] | None = None,
+                 note: Note = lambda number, event: None,
+                 guard: PoolGuard | None = None) -> None:
+        self.api, self.lane, self.paths, self.fault_of = api, lane, paths, fault_of
+        self.until_quiet, self.note, self.guard = until_quiet, note, guard
+        self.lists = {kind: asyncio.Event() for kind in paths}
+        self.kept: dict[tuple[str, Key], str] = {}
+
+    async def keep(self) -> None:
+        """Gives the lane its watches' lines. Where one expires all end; once the program has taken
+        note of that, all begin anew. Both wait until no put is left that could be stored."""
+        while True:
+            for ended in self.lists.values():
+                ended.clear()
+            self.kept.clear()
+            with contextlib.suppress(Expired):
+                await self.follow_all()
+            if self.until_quiet:
+                await self.until_quiet()
+            self.note(self.lane.given + 1, ANEW)
+            await self.lane.until_taken(await self.lane.give(ERROR))
+            if self.until_quiet:
+                await self.until_quiet()
+
+    async def follow_all(self) -> None:
+        await together(self.tell_awaited(),
+                       *(self.follow(Watched(kind, path)) for kind, path in self.paths.items()))
+
+    async def tell_awaited(self) -> None:
+        """Tells what is kept from the program, and which first lists haven't ended, as long as
+        there are such."""
+        while True:
+            await asyncio.sleep(AWAITED_TOLD)
+            for text in self.kept.values():
+                warn(text)
+            if awaited := [kind for kind, ended in self.lists.items() if not ended.is_set()]:
+                tell(f"{self.lane.name} lane: no end yet of the lists of {', '.join(awaited)}")
+            for event, line in self.guard.released() if self.guard else ():
+                await self.give(event, line)
+
+    async def follow(self, watched: Watched) -> None:
+        """Gives the lines of one watch, over as many connections as it takes."""
+        loop = asyncio.get_running_loop()
+        while True:
+            wait, begun = None, loop.time()
+            try:
+                await self.pass_all(watched)
+            except (NotSent, Broken):
+                pass  # it is told where all requests are made
+            except NotYet:
+                wait = EMPTY_PAUSE
+            except Refused as fault:
+                if fault.status == 410:
+                    raise Expired() from fault
+                wait = max(fault.retry_after or 0.0, watched.pause.next(), REFUSED_PAUSE)
+                if watched.told != fault.status:
+                    tell(f"no watch of {watched.path}: {fault}", logging.WARNING)
+                watched.told = fault.status
+            if loop.time() - begun > LONGEST_PAUSE:
+                watched.pause.reset()
+            await asyncio.sleep(watched.pause.next() if wait is None else wait)
+
+    async def pass_all(self, watched: Watched) -> None:
+        """Gives the lines of one connection."""
+        held: dict[Key, bytes] = {}
+        async with aclosing(self.asked(watched)) as lines:
+            async for line in lines:
+                event, line = readable(line)
+                if event["type"] == "ERROR":
+                    raise Expired()
+                watched.told = None
+                watched.pause.reset()
+                if event["type"] == "BOOKMARK":
+                    watched.gap.note()
+                if not await self.keep_back(watched.kind, event, line, held):
+                    await self.pass_on(watched, event, line, held)
+                watched.version = event["object"]["metadata"]["resourceVersion"]
+
+    def asked(self, watched: Watched) -> AsyncGenerator[bytes, None]:
+        if not self.lists[watched.kind].is_set():
+            return self.first(watched)
+        return self.more(watched)
+
+    async def more(self, watched: Watched) -> AsyncGenerator[bytes, None]:
+        """The lines of a watch that goes on."""
+        path = f"{watched.path}?{NEXT.format(watched.version)}"
+        async with aclosing(self.api.lines(path, watched.gap.limit)) as lines:
+            async for line in lines:
+                yield line
+
+    async def first(self, watched: Watched) -> AsyncGenerator[bytes, None]:
+        """The lines of a watch that begins with what there is. A server that doesn't serve such
+        (before Kubernetes 1.32, and 1.33, unasked) is asked for a list, and the lines end behind
+        it; so is one that marks no end of it."""
+        try:
+            path = f"{watched.path}?{FIRST}"
+            async with aclosing(self.api.lines(path, watched.gap.limit)) as lines:
+                is_ended = False
+                async for line in lines:
+                    is_ended = is_ended or b'"k8s.io/initial-events-end"' in line
+                    if not is_ended and line.startswith(b'{"type":"BOOKMARK"'):
+                        raise Refused(UNSERVED[0], "the end of the list isn't marked")
+                    yield line
+            return
+        except Refused as fault:
+            if fault.status not in UNSERVED:
+                raise
+        async with aclosing(self.api.listed(watched.path)) as lines:
+            async for line in lines:
+                yield line
+
+    async def keep_back(self, kind: str, event: Json, line: bytes,
+                        held: dict[Key, bytes]) -> bool:
+        """Keeps a line that would end the program from it, and tells so, once more for as long as
+        the object stands so."""
+        fault, key = await self.fault_of(event, line), (kind, key_of(event))
+        self.kept.pop(key, None)
+        if not fault:
+            return False
+        held.pop(key_of(event), None)
+        name = "/".join(part for part in key_of(event) if part)
+        self.kept[key] = f"{kind} {name} is kept from the program: {fault}"
+        warn(self.kept[key])
+        return True
+
+    async def pass_on(self, watched: Watched, event: Json, line: bytes,
+                      held: dict[Key, bytes]) -> None:
+        """Gives one line, or holds it back with the others of a list that hasn't ended: the server
+        may show changes in it, and each object is to be given once. So nothing was given of a list
+        that breaks. A line that changes nothing of what is read is left out."""
+        kind = watched.kind
+        if not self.lists[kind].is_set():
+            if ends_list(event):
+                await self.end_list(watched, event, line, held)
+            else:
+                hold(held, event, line)
+        elif watched.changes_nothing(event):
+            self.note(self.lane.given, event)
+        elif kind == POOL and self.guard and event["type"] != "BOOKMARK":
+            for one, given in self.guard.passed(event, line):
+                await self.give(one, given)
+        else:
+            await self.give(event, line)
+
+    async def end_list(self, watched: Watched, event: Json, line: bytes,
+                       held: dict[Key, bytes]) -> None:
+        """Gives what was held back, and the end of the list. That of the pools is held back until
+        the first lists of the other configuration kinds have ended."""
+        kind = watched.kind
+        if kind == POOL and self.guard:
+            self.guard.begin_pools()
+            await self.guard.end_list(not held)
+        watched.labels.clear()
+        for last in held.values():
+            one = json.loads(last)
+            watched.changes_nothing(one)
+            if kind == POOL and self.guard:
+                self.guard.passed(one, last)
+            await self.give(one, last)
+        held.clear()
+        if kind == POOL:
+            for other, ended in self.lists.items():
+                if other not in HOLD_NOTHING_BACK:
+                    await ended.wait()
+        await self.give(event, line)
+        self.lists[kind].set()
+
+    async def give(self, event: Json, line: bytes) -> None:
+        self.note(self.lane.given + 1, event)
+        await self.lane.give(line)
+
+    async def until_listed(self) -> None:
+        """Waits until all first lists have been given."""
+        for ended in self.lists.values():
+            await ended.wait()

@@ -1,0 +1,380 @@
+"""What the words of `python3 tests/cluster/sim` ask for: seeds, a history, a shrunk one, planted
+faults, or the checks of hashes."""
+import argparse
+import collections
+import gc
+import importlib
+import importlib.util
+import itertools
+import json
+import os
+import pathlib
+import select
+import sys
+import tempfile
+import time
+import traceback
+from collections.abc import Iterable, Iterator, Sequence
+from dataclasses import asdict, replace
+from typing import IO, TYPE_CHECKING, Any
+
+HERE = pathlib.Path(__file__).resolve().parent
+TOP = HERE.parents[2]
+if TYPE_CHECKING:
+    from history import Asked, Result
+
+SALTS, FEW = 6, 40  # with how many salts a history of fewer troubles than so many is tried
+HASHES = HERE / "hashes.json"
+WRITTEN = sorted((HERE / "histories.d").glob("*.json"))
+CHECKED = (("one", 1), ("failover", 2), ("pair", 3), ("three", 4))
+CHECKED_SECONDS = 180.0
+BEHIND = 200.0  # seconds after a difference up to which a history is shrunk
+MODES = ("failover", "pair", "one", "three")
+
+
+def names(text: str) -> tuple[str, ...]:
+    return tuple(one for one in text.split(",") if one)
+
+
+def words(given: Sequence[str]) -> argparse.Namespace:
+    ask = argparse.ArgumentParser(description="Histories of a small cluster in virtual time.")
+    ask.add_argument("--seed", type=int, default=1)
+    ask.add_argument("--minutes", type=float, default=1.0, help="of the clock (%(default)s)")
+    ask.add_argument("--histories", type=int, help="so many in place of so many minutes")
+    ask.add_argument("--jobs", type=int, default=1, help="processes at a time (%(default)s)")
+    ask.add_argument("--mode", choices=(*MODES, "all"), default="all",
+                     help="who starts bridges, see operators.py; of `all` by the seed")
+    ask.add_argument("--kinds", type=names, help="the kinds of troubles (all); see troubles.py")
+    ask.add_argument("--without", type=names, default=(), help="faults of requests that don't come")
+    ask.add_argument("--virtual", type=float, default=15.0,
+                     help="minutes of troubles (%(default)s)")
+    ask.add_argument("--controller", default=str(TOP / "crates/mlb_controller/out/mlb_controller"))
+    ask.add_argument("--bridge", default=str(TOP / "bridge"))
+    ask.add_argument("--trace", metavar="FILE", help="keeps what is noted")
+    ask.add_argument("--only", type=names, help="the numbers of the troubles that come")
+    ask.add_argument("--salt", type=int, default=0,
+                     help="another one has the same troubles come to other ends")
+    ask.add_argument("--shrink", metavar="FILE", help="writes the shortest history found")
+    ask.add_argument("--history", metavar="FILE", help="runs that one")
+    ask.add_argument("--planted", nargs="?", const="all", type=names, metavar="NAME,..")
+    ask.add_argument("--check", action="store_true", help="compares hashes")
+    ask.add_argument("--renew", action="store_true", help="writes them anew")
+    ask.add_argument("--verbose", action="store_true")
+    ask.add_argument("--stop", action="store_true", help="end at the first difference")
+    return ask.parse_args(given)
+
+
+class Runner:
+    """Runs histories with one bridge and one controller, each in a process of its own, so that
+    nothing is left of the one before. `plant` is the name of a fault."""
+
+    def __init__(self, bridge: str, controller: str, plant: str | None = None) -> None:
+        self.bridge, self.controller, self.plant = bridge, controller, plant
+
+    def each(self, asked: Iterable["Asked"], jobs: int = 1,
+             trace: str | None = None) -> Iterator["Result"]:
+        """What came of each, in the order in which they end."""
+        from history import Result
+        left, running = iter(asked), dict[IO[str], int]()
+        try:
+            while True:
+                while len(running) < jobs and (one := next(left, None)):
+                    pid, file = self.begun(one, trace)
+                    running[file] = pid
+                if not running:
+                    return
+                for file in select.select(list(running), [], [])[0]:
+                    with file:
+                        told = json.load(file)
+                    os.waitpid(running.pop(file), 0)
+                    yield Result(**told)
+        finally:
+            for file, pid in running.items():
+                file.close()
+                os.waitpid(pid, 0)
+
+    def one(self, asked: "Asked", trace: str | None = None) -> "Result":
+        return next(self.each([asked], 1, trace))
+
+    def begun(self, asked: "Asked", trace: str | None) -> tuple[int, IO[str]]:
+        ours, theirs = os.pipe()
+        if child := os.fork():
+            os.close(theirs)
+            return child, open(ours)
+        os.close(ours)
+        from history import Result
+        try:
+            told = self.run(asked, trace)
+        except BaseException as fault:
+            wrong = [f"SIMULATION {fault!r}", traceback.format_exc()]
+            told = Result(asked.seed, wrong)
+        told.processor = sum(os.times()[:4])
+        with open(theirs, "w") as file:
+            json.dump(asdict(told), file)
+        os._exit(0)
+
+    def run(self, asked: "Asked", trace: str | None) -> "Result":
+        gc.disable()
+        controller = importlib.import_module("controller")
+        from history import History
+        from operators import SERVER
+        from planted import PROGRAMS, Wrong
+        command = ["controller", "--program", self.controller, "--server", SERVER]
+        given = vars(words_of(self.bridge).parse_args(command))
+        given |= {"client_certificate": None, "client_key": None}
+        alter = Wrong(self.plant).line if self.plant in PROGRAMS and self.plant else same
+        with open(trace or os.devnull, "w") as file:
+            keeps = file if trace else None
+            return History(asked, controller.serve, given, keeps, alter).run()
+
+
+def same(value: dict[str, Any]) -> dict[str, Any]:
+    return value
+
+
+def words_of(bridge: str) -> argparse.ArgumentParser:
+    """The bridge's words, so that what counts where they aren't given is said in one place."""
+    spec = importlib.util.spec_from_file_location("bridge_words", f"{bridge}/__main__.py")
+    if spec is None or spec.loader is None:
+        raise FileNotFoundError(bridge)
+    module = importlib.util.module_from_spec(spec)
+    spec.loader.exec_module(module)
+    parser: argparse.ArgumentParser = module.words()
+    return parser
+
+
+def asked_of(options: argparse.Namespace, seed: int) -> "Asked":
+    from history import Asked
+    only = None if options.only is None else tuple(map(int, options.only))
+    mode = MODES[seed % len(MODES)] if options.mode == "all" else options.mode
+    return Asked(seed, mode, options.virtual * 60, frozenset(options.without),
+                 options.kinds, only, options.salt)
+
+
+def read_history(path: str | pathlib.Path) -> "Asked":
+    """A history that is written: its members but for the troubles are those of Asked."""
+    from history import Asked
+    from troubles import Trouble
+    said = json.loads(pathlib.Path(path).read_text())
+    said.pop("what", None)
+    said.setdefault("seed", 1)
+    said["troubles"] = [Trouble(*one) for one in said["troubles"]]
+    said["without"] = frozenset(said.get("without", ()))
+    return Asked(**said)
+
+
+def write_history(path: str, asked: "Asked", troubles: list[Any], what: str) -> None:
+    said = {"what": what, "seed": asked.seed, "salt": asked.salt, "mode": asked.mode,
+            "seconds": asked.seconds, "without": sorted(asked.without), "troubles": []}
+    lines = ",\n  ".join(json.dumps(one) for one in troubles)
+    text = json.dumps(said, indent=1).replace('"troubles": []', f'"troubles": [\n  {lines}]')
+    pathlib.Path(path).write_text(text + "\n")
+
+
+def kind_of(wrong: list[str]) -> str:
+    return wrong[0].split()[0] if wrong else ""
+
+
+def planned(asked: "Asked") -> list[Any]:
+    """All troubles of a history."""
+    from troubles import KINDS, drawn
+    from virtual import World
+    if asked.troubles is not None:
+        return asked.troubles
+    kinds = [kind for kind in asked.kinds or KINDS if kind not in asked.without]
+    return drawn(World(asked.seed).stream("plan", False), asked.seconds, kinds)
+
+
+def shrunk(runner: Runner, asked: "Asked") -> "Asked":
+    """The history with as few troubles as still lead to the same kind of difference: parts are left
+    out, ever smaller ones."""
+    first = runner.one(asked)
+    kind, kept = kind_of(first.wrong), list(asked.only or range(first.drawn))
+    print(f"{len(kept)} troubles: {first.wrong[:1]}", flush=True)
+    best = replace(asked, end=first.at + BEHIND if kind in ("SHARED", "EMPTIED") else None)
+    size = len(kept) // 2
+    while kind and size:
+        at, found = 0, False
+        while at < len(kept):
+            fewer = kept[:at] + kept[at + size:]
+            salts = (best.salt, *range(best.salt + 1, best.salt + SALTS * (len(fewer) < FEW)))
+            for salt in salts:
+                told = runner.one(replace(best, only=tuple(fewer), salt=salt))
+                if kind_of(told.wrong) == kind:
+                    end = best.end and min(best.end, told.at + BEHIND)
+                    best = replace(best, only=tuple(fewer), salt=salt, end=end)
+                    kept, found = fewer, True
+                    break
+            else:
+                at += size
+        print(f"{len(kept)} troubles, salt {best.salt}", flush=True)
+        if size > 1 or not found:
+            size //= 2
+    return replace(best, only=tuple(kept), end=None)
+
+
+class Report:
+    """Counts what came of the histories, and tells of differences."""
+
+    def __init__(self) -> None:
+        self.found = collections.Counter[str]()
+        self.troubles = collections.Counter[str]()
+        self.histories = self.ends = self.changes = 0
+        self.hours = self.processor = 0.0
+
+    def add(self, told: "Result") -> None:
+        self.histories += 1
+        self.hours += told.at / 3600
+        self.processor += told.processor
+        self.ends += told.ends
+        self.changes += told.changes
+        self.troubles.update(told.troubles)
+        for line in told.surprises:
+            print(f"seed {told.seed}: surprise {line}", flush=True)
+        if told.surprises and not told.wrong:
+            self.found["ENDED"] += 1
+        if told.wrong:
+            self.found[kind_of(told.wrong)] += 1
+            at = f"at {told.at:.1f} s, {told.processor:.1f} s of processor, hash {told.hash}"
+            print(f"seed {told.seed} {at}:", *told.wrong, sep="\n  ", flush=True)
+
+    def tell(self) -> None:
+        print(f"{self.histories} histories, {self.hours:.1f} virtual hours, {self.ends} ends of "
+              f"bridges, {self.changes} changes in {self.processor / 60:.1f} minutes of processor; "
+              f"{dict(self.troubles)}; {dict(self.found) or 'no difference'}", flush=True)
+
+
+def seeds(options: argparse.Namespace) -> Iterator[int]:
+    """One after the other, for as long as is asked."""
+    until = time.monotonic() + 60 * options.minutes
+    for seed in itertools.count(options.seed):
+        is_over = (seed >= options.seed + options.histories if options.histories
+                   else time.monotonic() >= until)
+        if is_over:
+            return
+        yield seed
+
+
+def run_seeds(options: argparse.Namespace, runner: Runner) -> int:
+    report = Report()
+    asked = (asked_of(options, seed) for seed in seeds(options))
+    for told in runner.each(asked, options.jobs, options.trace):
+        report.add(told)
+        if options.verbose:
+            print(told.seed, told.hash, f"{told.processor:.1f} s, settled after "
+                  f"{told.settled:.0f} s", flush=True)
+        if options.stop and report.found:
+            break
+    report.tell()
+    return 1 if report.found else 0
+
+
+def run_shrunk(options: argparse.Namespace, runner: Runner) -> int:
+    asked = shrunk(runner, asked_of(options, options.seed))
+    told = runner.one(asked, options.trace)
+    troubles = [one for at, one in enumerate(planned(asked)) if at in (asked.only or ())]
+    write_history(options.shrink, asked, troubles, "; ".join(told.wrong[:1]))
+    print(f"{len(troubles)} troubles in {options.shrink}:", *told.wrong, sep="\n  ")
+    return 1 if told.wrong else 0
+
+
+def run_written(options: argparse.Namespace, runner: Runner) -> int:
+    told = runner.one(read_history(options.history), options.trace)
+    print(f"at {told.at:.1f} s, hash {told.hash}, settled after {told.settled:.0f} s:",
+          *(told.wrong or ["no difference"]), *told.surprises, sep="\n  ")
+    return 1 if told.wrong or told.surprises else 0
+
+
+def found_by(options: argparse.Namespace, name: str, folder: str) -> str | None:
+    """The seed by which a planted fault is found, and how, or nothing."""
+    from planted import folder_of
+    bridge = folder_of(name, options.bridge, folder)
+    sys.path.insert(0, bridge)
+    spent = 0.0
+    try:
+        print(f"{name}: histories {histories_that_find(options, bridge, name)}", flush=True)
+        for seed in itertools.count(options.seed):
+            told = Runner(bridge, options.controller, name).one(asked_of(options, seed))
+            spent += told.processor
+            if (told.wrong or told.surprises) and is_well(options, seed):
+                how = [*told.wrong, *told.surprises][0]
+                return f"seed {seed} at {told.at:.0f} s, {spent:.0f} s spent: {how}"
+            if spent > 60 * options.minutes:
+                return None
+    finally:
+        sys.path.remove(bridge)
+    return None
+
+
+def histories_that_find(options: argparse.Namespace, bridge: str, name: str) -> str:
+    """The names of the written histories that find a planted fault."""
+    runner = Runner(bridge, options.controller, name)
+    told = {path.stem: runner.one(read_history(path)) for path in WRITTEN}
+    return ", ".join(one for one in told if told[one].wrong or told[one].surprises) or "none"
+
+
+def is_well(options: argparse.Namespace, seed: int) -> bool:
+    """Whether nothing is found with the right bridge and program."""
+    told = Runner(options.bridge, options.controller).one(asked_of(options, seed))
+    return not told.wrong and not told.surprises
+
+
+def run_planted(options: argparse.Namespace) -> int:
+    from planted import NAMES
+    wanted = NAMES if options.planted == ("all",) else options.planted
+    missed = 0
+    with tempfile.TemporaryDirectory(prefix="mlb-planted-") as folder:
+        for name in wanted:
+            found = found_by(options, name, folder)
+            missed += found is None
+            print(f"{name}: {found or 'NOT FOUND'}", flush=True)
+    return 1 if missed else 0
+
+
+def run_checks(options: argparse.Namespace, runner: Runner) -> int:
+    """The last line is 'N passed, M failed'."""
+    from history import Asked
+    asked = {f"{mode} {seed}": Asked(seed, mode, CHECKED_SECONDS) for mode, seed in CHECKED}
+    asked |= {path.stem: read_history(path) for path in WRITTEN}
+    told = {name: runner.one(one) for name, one in asked.items()}
+    if options.renew:
+        hashes = {name: one.hash for name, one in told.items()}
+        HASHES.write_text(json.dumps(hashes, indent=1) + "\n")
+    kept = json.loads(HASHES.read_text())
+    failed = 0
+    for name, one in told.items():
+        wrong = [*one.wrong, *one.surprises]
+        if one.hash != kept.get(name):
+            wrong.append(f"its hash is {one.hash} and was {kept.get(name)}")
+        failed += bool(wrong)
+        if wrong:
+            print(f"FAILED {name}", *wrong, sep="\n  ")
+    print(f"{len(told) - failed} passed, {failed} failed")
+    return 1 if failed else 0
+
+
+def main(given: Sequence[str]) -> int:
+    options = words(given)
+    if options.planted and (options.shrink or options.trace or options.history):
+        with tempfile.TemporaryDirectory(prefix="mlb-planted-") as folder:
+            return run_with(options, options.planted[0], folder)
+    sys.path.insert(0, options.bridge)
+    if options.planted:
+        return run_planted(options)
+    return run_asked(options, Runner(options.bridge, options.controller))
+
+
+def run_with(options: argparse.Namespace, name: str, folder: str) -> int:
+    """What is asked for, with that fault planted."""
+    from planted import folder_of
+    bridge = folder_of(name, options.bridge, folder)
+    sys.path.insert(0, bridge)
+    return run_asked(options, Runner(bridge, options.controller, name))
+
+
+def run_asked(options: argparse.Namespace, runner: Runner) -> int:
+    if options.check or options.renew:
+        return run_checks(options, runner)
+    if options.history:
+        return run_written(options, runner)
+    return run_shrunk(options, runner) if options.shrink else run_seeds(options, runner)

@@ -1,0 +1,226 @@
+"""One history of a small cluster: users edit, things go wrong for some minutes, then all is well
+again. What is wrong is told by the judges of the store."""
+import asyncio
+import contextlib
+import copy
+import math
+import time
+import types
+import uuid
+from collections.abc import Callable, Coroutine
+from dataclasses import dataclass, field
+from typing import Any, TextIO
+
+import host
+import store as stores
+from judges import Judges
+from kinds import BY_NAME
+from lockstep import Alter
+from loops import EPOCH, Machine, Process
+from operators import Operator
+from rules import read_address
+from servers import ApiServer, Weather
+from stand_ins import Simulated, note_log
+from troubles import KINDS, Harm, Trouble, drawn
+from users import SPANS, Users, custom
+from virtual import World
+
+SETTLED = 900.0  # seconds of calm within which nothing may be left to be done
+STAYS = 60.0  # and in which that stays so
+LOOK = 5.0
+LEASE = ("metallb-system", "controller")
+
+
+@dataclass
+class Asked:
+    """What a history is made of."""
+    seed: int
+    mode: str
+    seconds: float
+    without: frozenset[str] = frozenset()
+    kinds: tuple[str, ...] | None = None
+    only: tuple[int, ...] | None = None  # the troubles that come, by their numbers; all if None
+    salt: int = 0
+    end: float | None = None  # where it is looked no further, and nothing is asked of what is left
+    troubles: list[Trouble] | None = None  # those of a written history
+    is_bare: bool = False  # users have made nothing before
+    guard: bool | None = None  # whether the bridge keeps the last pool's deletion back; drawn
+
+
+@dataclass
+class Result:
+    seed: int
+    wrong: list[str]
+    at: float = 0.0
+    hash: str = ""
+    notes: int = 0
+    troubles: dict[str, int] = field(default_factory=dict)
+    changes: int = 0
+    ends: int = 0
+    surprises: list[str] = field(default_factory=list)
+    drawn: int = 0
+    settled: float = 0.0
+    processor: float = 0.0
+
+
+class History:
+    def __init__(self, asked: Asked, serve: Callable[[Any], Coroutine[Any, Any, None]],
+                 words: dict[str, Any], trace: TextIO | None = None,
+                 alter: Alter = lambda value: value) -> None:
+        self.asked, self.world = asked, World(asked.seed, asked.salt, trace)
+        world = self.world
+        self.store = new_store(world)
+        host.hand_in(Simulated(world))
+        note_log()
+        self.is_calm = False
+        self.weather = Weather()
+        self.users = Users(self.store, world.stream("users", False))
+        if not asked.is_bare:
+            self.users.begin()
+        self.make_lease()
+        flip = world.stream("guard", False).random() < 0.5
+        self.is_guarded = flip if asked.guard is None else asked.guard
+        self.judges = Judges(self.store, self.is_guarded)
+        self.alter = alter
+        self.store.on_change.append(self.changed)
+        self.servers = [ApiServer(world, self.store, name, self.weather)
+                        for name in ("api1", "api2")]
+        draw = world.stream("machines")
+        self.machines = [Machine(world, f"n{at}", draw.uniform(-30, 30), draw.uniform(0.999, 1.001))
+                         for at in range(1, 4)]
+        self.harm = Harm(self, asked.without)
+        kinds = [kind for kind in asked.kinds or KINDS if kind not in asked.without]
+        plan = world.stream("plan", False)
+        self.troubles = asked.troubles or drawn(plan, asked.seconds, kinds)
+        words = {**words, "without_pools": not self.is_guarded}
+        self.operator = Operator(world, asked.mode, self.machines, self.servers, serve, words,
+                                 self.written)
+
+    def written(self, value: dict[str, Any]) -> dict[str, Any]:
+        """Told of what each program writes."""
+        value = self.alter(value)
+        if value["op"] == "put":
+            addresses = [read_address(address) for address in value["addresses"]]
+            self.judges.emptied.asked((value["namespace"], value["name"]), addresses)
+        return value
+
+    def make_lease(self) -> None:
+        """The Lease that the manifest makes."""
+        lease = {"apiVersion": "coordination.k8s.io/v1", "kind": "Lease", "spec": {},
+                 "metadata": {"namespace": LEASE[0], "name": LEASE[1]}}
+        if LEASE not in self.store.objects[BY_NAME["Lease"]]:
+            self.store.put(lease)
+
+    def take_lease(self, holder: str) -> None:
+        lease = copy.deepcopy(self.store.objects[BY_NAME["Lease"]].get(LEASE))
+        if lease and not self.is_calm:
+            lease["spec"]["holderIdentity"] = holder
+            with contextlib.suppress(stores.Refused):
+                self.store.update(BY_NAME["Lease"], LEASE, lease)
+
+    def changed(self, change: Any) -> None:
+        if change.kind.name in ("Service", "IPAddressPool", "Lease"):
+            thing = change.object
+            status = (thing.get("status") or {}).get("loadBalancer") or {}
+            has = ",".join(one.get("ip", "") for one in status.get("ingress") or [])
+            told = f"{change.type} {change.kind.name} {'/'.join(change.key)} {has}"
+            self.world.note("store", f"{change.version} {told}")
+
+    def run(self) -> Result:
+        world, asked = self.world, self.asked
+        for at, trouble in enumerate(self.troubles):
+            if asked.only is None or at in asked.only:
+                world.at(trouble.at, self.harm, trouble)
+        end = asked.end or math.inf
+        world.run(min(end, asked.seconds), self.judges.faults)
+        wrong, settled = self.judges.faults()[:1], 0.0
+        if not wrong and end > asked.seconds:
+            self.heal()
+            wrong = self.settle()
+            settled = world.now - asked.seconds
+        operator = self.operator
+        surprises = [line for process in (*operator.graves, *operator.bridges)
+                     for line in surprises_of(process)]
+        for run in operator.runs:
+            if not run.over:
+                run.finish()
+        return Result(world.seed, wrong, world.now, world.hash.hexdigest()[:16], world.notes,
+                      self.harm.counts, self.store.version, operator.ends, surprises,
+                      len(self.troubles), settled)
+
+    def heal(self) -> None:
+        """All faults cease but a webhook that stays down."""
+        self.world.note("trouble", "none any more")
+        self.is_calm = True
+        operator = self.operator
+        operator.off.clear()
+        for machine in self.machines:
+            machine.cut.clear()
+            machine.go_on()
+        for server in self.servers:
+            server.lag = 0.0
+            if not server.up:
+                server.recover()
+            server.see(self.store.version)
+        self.weather.shares, self.weather.watches = {}, {}
+        self.weather.next_puts.clear()
+        self.store.history = 1000
+        for bridge in operator.bridges:
+            bridge.fuse = None
+            bridge.resume()
+        for run in operator.runs:
+            if run.frozen:
+                self.harm.thaw(run)
+        self.users.mend()
+        if self.is_guarded and not self.store.objects[BY_NAME["IPAddressPool"]]:
+            self.store.put(custom("IPAddressPool", "p0", {"addresses": SPANS[:1]}))
+
+    def left(self) -> list[str]:
+        """What isn't as it must be. Of services that can't be changed nothing is asked, and of the
+        addresses that such a one may have by a put that can't be fenced either."""
+        webhook, doubted = self.weather.webhook, self.weather.doubted
+        return [line for line in self.judges.left()
+                if not webhook or not (line.startswith(f"LEFT {webhook}/")
+                                       or doubted & set(wanted_in(line)))]
+
+    def settle(self) -> list[str]:
+        world = self.world
+        since: float | None = None
+        end = min(world.now + SETTLED, self.asked.end or math.inf)
+        while world.now < end:
+            world.run(world.now + LOOK, self.judges.faults)
+            if faults := self.judges.faults():
+                return faults[:1]
+            since = None if self.left() else since or world.now
+            if since and world.now - since >= STAYS:
+                return []
+        if self.asked.end:
+            return []
+        return [f"UNSETTLED within {SETTLED:.0f} s", *self.left()]
+
+
+def new_store(world: World) -> stores.Store:
+    """A store whose identities and time of day are the world's."""
+    identities = world.stream("identities")
+
+    def identity() -> uuid.UUID:
+        return uuid.UUID(int=identities.getrandbits(128), version=4)
+
+    def day() -> time.struct_time:
+        return time.gmtime(EPOCH + world.now)
+    vars(stores).update(uuid=types.SimpleNamespace(uuid4=identity),
+                        time=types.SimpleNamespace(strftime=time.strftime, gmtime=day))
+    return stores.Store(history=1000)
+
+
+def wanted_in(line: str) -> list[str]:
+    """The addresses that a service ought to have, by a line of the judge."""
+    return line.partition(" would be ")[2].partition(" of ")[0].split(",")
+
+
+def surprises_of(process: Process) -> list[str]:
+    """A bridge that ended by itself with a failure."""
+    task: asyncio.Task[object] | None = process.main
+    if task and task.done() and not task.cancelled() and task.exception():
+        return [f"{process.name}: {task.exception()!r}"]
+    return []

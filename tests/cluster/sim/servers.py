@@ -1,0 +1,334 @@
+"""API servers over one store: each with a cache of its own that watches are served from, and with
+faults of requests and watches. What a request is answered is what tests/cluster's server answers.
+"""
+import io
+import json
+import random
+from collections.abc import Callable
+from typing import Any
+
+from kinds import BY_NAME
+from serving import END as ENDS_LIST, Faults, Handler, Selection, Stream
+from store import Refused, Store
+from virtual import World
+from wires import END, RESET, Link, What
+
+BOOKMARK_SECONDS = 10.0
+REQUEST_SECONDS = 60.0  # in which a server may carry out a request, from when it received it
+HOP_SECONDS = 600.0  # in which a hop may bring a request that it holds, though its sender is gone
+WRITES = ("PATCH", "PUT", "POST", "DELETE")
+ALL_REQUESTS = ("reset", "slow", "error", "mute")  # what befalls requests that change nothing too
+Json = dict[str, Any]
+Answers = Callable[[int, Json], None]
+
+
+class Weather:
+    """What goes wrong with requests and watches, each a share of the times that it could. `strikes`
+    is how often something befalls the process whose request went wrong. `webhook` is the namespace
+    whose services can't be changed, for a webhook that is down; `errors` the statuses that requests
+    are refused by; `next_puts` the fates of the next changes of a service's status, of a written
+    history."""
+
+    def __init__(self) -> None:
+        self.shares: dict[str, float] = {}
+        self.watches: dict[str, float] = {}
+        self.webhook: str | None = None
+        self.errors, self.strikes = (500, 503, 429), 0.0
+        self.next_puts: list[tuple[str, float]] = []
+        # The addresses of puts that the webhook refused, and whose fences it refused too.
+        self.doubted: set[str] = set()
+        self.strike: Callable[[Any, random.Random], None] = lambda process, chance: None
+
+
+def drawn(shares: dict[str, float], chance: random.Random) -> str | None:
+    """One of what has a share, or nothing."""
+    left = chance.random()
+    for name, share in shares.items():
+        left -= share
+        if left < 0:
+            return name
+    return None
+
+
+class Asked(Handler):
+    """A request that was received whole, as the server of serving.py handles it, but without a
+    connection."""
+    server: Any
+    headers: Any
+
+    def __init__(self, server: "ApiServer", command: str, path: str, headers: dict[str, str],
+                 body: bytes) -> None:
+        self.server, self.command, self.path, self.headers = server, command, path, headers
+        self.rfile = io.BytesIO(body)
+        self.answered: tuple[int, Any] | None = None
+        self.watched: tuple[Any, Selection, int | None, bool] | None = None
+
+    def answer(self, code: int, body: Any) -> None:
+        self.answered = code, body
+
+    def watch(self, kind: Any, selection: Selection, asked: dict[str, str]) -> None:
+        initial, given = asked.get("sendInitialEvents"), asked.get("resourceVersion", "")
+        begins = initial == "true" or given in ("", "0") and initial != "false"
+        self.watched = kind, selection, None if begins else int(given), initial == "true"
+
+
+class ApiServer:
+    def __init__(self, world: World, store: Store, name: str, weather: Weather) -> None:
+        self.world, self.store, self.name, self.weather = world, store, name, weather
+        self.up, self.lag, self.faults, self.log = True, 0.0, Faults(), None
+        self.seen: int = store.version
+        self.exchanges: list[Exchange] = []
+        store.on_change.append(self.changed)
+        world.after(world.chance(name).uniform(0, BOOKMARK_SECONDS), self.bookmarks)
+
+    def begin(self, link: Link) -> "Exchange":
+        exchange = Exchange(self, link)
+        self.exchanges.append(exchange)
+        return exchange
+
+    def changed(self, change: Any) -> None:
+        chance = self.world.chance(f"{self.name} {change.kind.name} {'/'.join(change.key)}")
+        self.world.after(chance.uniform(1e-3, 1e-2) + self.lag, self.see, change.version)
+
+    def see(self, version: int) -> None:
+        if version > self.seen:
+            self.seen = version
+            self.advance()
+
+    def advance(self) -> None:
+        for exchange in list(self.exchanges):
+            if exchange.stream:
+                exchange.stream.advance()
+
+    def bookmarks(self) -> None:
+        self.world.after(BOOKMARK_SECONDS, self.bookmarks)
+        for exchange in list(self.exchanges):
+            if exchange.stream and exchange.stream.ended:
+                exchange.stream.mark({})
+
+    def crash(self) -> None:
+        self.world.note(self.name, "down")
+        self.up = False
+        for exchange in list(self.exchanges):
+            exchange.break_off()
+
+    def recover(self) -> None:
+        self.world.note(self.name, "up")
+        self.up, self.seen = True, self.store.version
+
+
+class Exchange:
+    """A connection at the server: one request, and its answer or its watch."""
+
+    def __init__(self, server: ApiServer, link: Link) -> None:
+        self.server, self.link, self.world = server, link, server.world
+        self.data, self.is_asked, self.over, self.told = b"", False, False, ""
+        self.stream: Watch | None = None
+
+    def received(self, what: What) -> None:
+        if isinstance(what, str):
+            self.finish()
+            return
+        self.data += what
+        head, ends, body = self.data.partition(b"\r\n\r\n")
+        if self.is_asked or not ends:
+            return
+        first, *lines = head.decode().split("\r\n")
+        headers = dict(line.split(": ", 1) for line in lines)
+        if len(body) >= int(headers.get("Content-Length", 0)):
+            self.is_asked = True
+            command, path, _ = first.split()
+            self.asked(lambda: Asked(self.server, command, path, headers, body), command, path,
+                       body.decode())
+
+    def finish(self) -> None:
+        """This end is closed. What was received whole is carried out all the same."""
+        self.over = True
+        if self.stream:
+            self.stream.over = True
+        if self in self.server.exchanges:
+            self.server.exchanges.remove(self)
+
+    def break_off(self) -> None:
+        if not self.over:
+            self.link.down.send(RESET)
+            self.finish()
+
+    # A request
+
+    def asked(self, make: Callable[[], Asked], command: str, path: str, body: str) -> None:
+        weather, random, after = self.server.weather, self.link.random, self.world.after
+        is_write = command in WRITES
+        self.told = f"{self.link.process.name} {command} {path.partition('?')[0]}"
+        self.told += f" {body}" if is_write else ""
+        shares = {name: share for name, share in weather.shares.items()
+                  if is_write or name in ALL_REQUESTS}
+        fault, soon, held = drawn(shares, random), random.uniform(5e-4, 8e-3), None
+        if weather.next_puts and is_write and path.endswith("/status") and "ingress" in body:
+            fault, held = weather.next_puts.pop(0)
+        if fault:
+            self.world.note(self.server.name, f"{fault}: {self.told}")
+            if is_write and random.random() < weather.strikes:
+                pause = random.choice((0.0, 0.01, 1.0)) * random.random()
+                after(pause, weather.strike, self.link.process, random)
+        if self.is_refused_by_webhook(command, path):
+            status = json.loads(body).get("status") or {}
+            ingress = (status.get("loadBalancer") or {}).get("ingress") or []
+            weather.doubted |= {one["ip"] for one in ingress}
+            told = "Internal error occurred: failed calling webhook"
+            after(soon, self.answer, 500, {"kind": "Status", "message": told})
+        else:
+            self.meet(fault, make, soon, held)
+
+    def meet(self, fault: str | None, make: Callable[[], Asked], soon: float,
+             held: float | None) -> None:
+        """The request meets with a fault, or with none. `held`: for how long a hop holds it."""
+        random, after = self.link.random, self.world.after
+        match fault:
+            case "reset":
+                self.break_off()
+            case "slow":
+                after(random.uniform(0, REQUEST_SECONDS), self.carry_out, make)
+            case "held":  # its sender is told that the connection broke, or nothing
+                if random.random() < 0.5:
+                    self.break_off()
+                else:
+                    self.link.is_mute = True
+                seconds = random.uniform(0, HOP_SECONDS) if held is None else held
+                after(seconds, self.carry_out, make, None, True)
+            case "resent":  # the first answer is lost
+                after(soon, self.carry_out, make, lambda *_: None)
+                after(soon + random.uniform(0.001, 1), self.carry_out, make)
+            case "error":
+                status = random.choice(self.server.weather.errors)
+                after(soon, self.answer, status, {"kind": "Status", "message": "made up"})
+            case "stored":
+                status = random.choice((500, 504))
+                after(soon, self.carry_out, make,
+                      lambda *_: self.answer(status, {"kind": "Status", "message": "timeout"}))
+            case "lost":
+                after(soon, self.carry_out, make, lambda *_: self.break_off())
+            case "mute":
+                self.link.is_mute = True
+                after(soon, self.carry_out, make)
+            case _:
+                after(soon, self.carry_out, make)
+
+    def is_refused_by_webhook(self, command: str, path: str) -> bool:
+        """Of an object that isn't there the server itself tells so."""
+        namespace = self.server.weather.webhook
+        services = self.server.store.objects[BY_NAME["Service"]]
+        named = path.partition("/services/")[2].partition("/")[0]
+        return bool(namespace and command in WRITES
+                    and f"/namespaces/{namespace}/services/" in path
+                    and (namespace, named) in services)
+
+    def carry_out(self, make: Callable[[], Asked], answer: Answers | None = None,
+                  held: bool = False) -> None:
+        if not self.server.up and not held:
+            return
+        asked = make()
+        asked.serve()
+        if asked.watched:
+            if not self.over:
+                self.begin_watch(*asked.watched)
+            return
+        if asked.answered is None:
+            raise ValueError(f"no answer to {self.told}")
+        code, body = asked.answered
+        if asked.command in WRITES:
+            late = " (its sender is gone)" if self.over else ""
+            version = f" -> {body['metadata'].get('resourceVersion')}" if code < 300 else ""
+            self.world.note(self.server.name, f"{code} to {self.told}{late}{version}")
+        (answer or self.answer)(code, body)
+
+    def answer(self, code: int, body: Json) -> None:
+        if not self.over:
+            data = json.dumps(body, separators=(",", ":")).encode()
+            head = (f"HTTP/1.1 {code} x\r\nContent-Type: application/json\r\n"
+                    f"Content-Length: {len(data)}\r\n\r\n")
+            self.link.down.send(head.encode() + data)
+            self.link.down.send(END)
+            self.finish()
+
+    def begin_watch(self, kind: Any, selection: Selection, version: int | None,
+                    marked: bool) -> None:
+        self.link.down.send(b"HTTP/1.1 200 x\r\nContent-Type: application/json\r\n"
+                            b"Transfer-Encoding: chunked\r\n\r\n")
+        self.stream = Watch(self, kind, selection, version, marked)
+        self.world.after(self.link.random.uniform(300, 1800), self.stream.close)
+        self.stream.begin()
+
+
+class Watch(Stream):
+    """A watch as it is written. One that begins with a list begins with what the cache has; its end
+    is marked once it has what the store had when it was asked for."""
+
+    def __init__(self, exchange: Exchange, kind: Any, selection: Selection, version: int | None,
+                 marked: bool) -> None:
+        self.exchange, self.kind, self.selection, self.marked = exchange, kind, selection, marked
+        self.server, self.store = exchange.server, exchange.server.store
+        self.link = exchange.link
+        self.version, self.due = version or 0, self.store.version
+        self.over, self.ended = False, version is not None
+
+    def begin(self) -> None:
+        if not self.ended:
+            items, self.version = self.store.list(self.kind, self.store.version - self.server.seen)
+            for item in items:
+                if self.selection.has(item) and not self.give("ADDED", item):
+                    return
+        self.advance()
+
+    def advance(self) -> None:
+        if self.over:
+            return
+        if self.version < self.store.oldest():
+            self.write_error()
+            return
+        if self.server.seen > self.version:
+            changes = self.store.changes[self.version:self.server.seen]
+            self.version = self.server.seen
+            for change in changes:
+                event = self.event_of(change) if change.kind == self.kind else None
+                if event and not self.give(*event):
+                    return
+        if not self.ended and self.version >= self.due:
+            self.ended = True
+            if self.marked:
+                self.mark(ENDS_LIST)
+
+    def give(self, type_: str, thing: Json) -> bool:
+        fault = drawn(self.server.weather.watches, self.link.random)
+        if fault == "break":
+            self.exchange.break_off()
+            return False
+        if fault == "expire":
+            self.write_error()
+            return False
+        if fault == "mute":
+            self.link.is_mute = True
+        self.write({"type": type_, "object": thing})
+        return True
+
+    def write_error(self) -> None:
+        self.write({"type": "ERROR", "object": Refused(410, "too old resource version").status()})
+        self.close()
+
+    def mark(self, annotations: Json) -> None:
+        """A bookmark."""
+        metadata: Json = {"resourceVersion": str(self.version)}
+        if annotations:
+            metadata["annotations"] = annotations
+        thing = {"kind": self.kind.name, "apiVersion": self.kind.api_version, "metadata": metadata}
+        self.write({"type": "BOOKMARK", "object": thing})
+
+    def write(self, event: Json) -> None:
+        data = json.dumps(event, separators=(",", ":")).encode() + b"\n"
+        self.link.down.send(b"%x\r\n%s\r\n" % (len(data), data))
+
+    def close(self) -> None:
+        if not self.over:
+            self.link.down.send(b"0\r\n\r\n")
+            self.link.down.send(END)
+            self.exchange.finish()

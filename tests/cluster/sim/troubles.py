@@ -1,0 +1,276 @@
+"""What goes wrong: each trouble has a time, a kind and a seed of its own, so that one can be left
+out without changing the others; or it is written, with what it says in place of the seed."""
+import math
+from random import Random
+from typing import TYPE_CHECKING, Any, NamedTuple
+
+from kinds import BY_NAME
+from loops import Machine, Process
+
+if TYPE_CHECKING:
+    from history import History
+    from lockstep import Run
+
+REQUESTS = ("reset", "lost", "slow", "error", "stored", "mute", "held", "resent")
+LONGEST = 300.0  # seconds of a trouble
+WATCHES = ("break", "expire", "mute")
+BOTH = (("up", "down"), ("up", "down"), ("up",), ("down",))
+STRIKES = ("kill", "cut", "pause", "off", "crash")
+KINDS = ["kill", "crash", "freeze", "pause", "suspend", "clock", "off", "roll", "cut", "down",
+         "stale", "storm", "watches", "compact", "webhook", "lease", "pools"]
+Said = dict[str, Any]
+
+
+class Trouble(NamedTuple):
+    at: float
+    kind: str
+    how: int | Said  # the seed of what is drawn of it, or what is written of it
+
+
+def drawn(random: Random, seconds: float, kinds: list[str]) -> list[Trouble]:
+    """The troubles of a history, in their order. Of each history some kinds are chosen, so that
+    each may come in crowds, and alone; in half of them requests go wrong."""
+    chosen = random.sample(kinds, random.randint(1, min(6, len(kinds))))
+    if "storm" in kinds and random.random() < 0.5:
+        chosen += ["storm"] * len(chosen)
+    pace, edits = random.choice((0.7, 2.0, 6.0, 20.0)), random.choice((0.2, 0.5, 0.8, 0.95))
+    at, found = 0.0, []
+    while (at := at + random.expovariate(1 / pace)) < seconds:
+        is_edit = random.random() < edits
+        kind = random.choice(("edit", "edit", "edit", "burst") if is_edit else chosen)
+        found.append(Trouble(at, kind, random.getrandbits(32)))
+    return found
+
+
+def length(random: Random) -> float:
+    """Seconds, from less than one to five minutes."""
+    return math.exp(random.uniform(math.log(0.3), math.log(LONGEST)))
+
+
+class Harm:
+    """Does what a trouble says. `without` has the faults of requests and watches that don't come.
+    """
+
+    def __init__(self, history: "History", without: frozenset[str]) -> None:
+        self.history, self.world, self.without = history, history.world, without
+        self.struck: Process | None = None
+        self.stretch = 1.0
+        self.counts: dict[str, int] = {}
+        history.weather.strike = self.strike
+
+    def __call__(self, trouble: Trouble) -> None:
+        self.counts[trouble.kind] = self.counts.get(trouble.kind, 0) + 1
+        self.world.note("trouble", f"{trouble.kind} {trouble.how}")
+        if isinstance(trouble.how, int):
+            getattr(self, trouble.kind)(Random(trouble.how))
+        else:
+            getattr(self, f"said_{trouble.kind}")(trouble.how)
+
+    def a_bridge(self, random: Random) -> Process | None:
+        if self.struck and not self.struck.dead:
+            return self.struck
+        bridges = self.history.operator.bridges
+        return random.choice(bridges) if bridges else None
+
+    # Users
+
+    def edit(self, random: Random) -> None:
+        users = self.history.users
+        if self.history.is_calm:
+            return
+        users.random = random
+        if random.random() < 0.5:
+            users.edit_services()
+        else:
+            users.edit()
+
+    def burst(self, random: Random) -> None:
+        for _ in range(random.randrange(2, 12)):
+            self.world.after(random.uniform(0, 1), self.edit, Random(random.getrandbits(32)))
+
+    def pools(self, random: Random) -> None:
+        """All pools are deleted, and made anew a while later."""
+        pools = dict(self.history.store.objects[BY_NAME["IPAddressPool"]])
+        for namespace, name in pools:
+            self.history.store.delete(BY_NAME["IPAddressPool"], (namespace, name))
+        pause = length(random) / 3
+        for pool in pools.values():
+            self.world.after(pause, self.make_pool, {**pool, "metadata": {
+                "namespace": pool["metadata"]["namespace"], "name": pool["metadata"]["name"]}})
+
+    def make_pool(self, pool: Said) -> None:
+        if not self.history.is_calm:
+            self.history.store.put(pool)
+
+    # Processes and machines
+
+    def kill(self, random: Random) -> None:
+        if bridge := self.a_bridge(random):
+            bridge.fuse = random.choice((0, 10, 100, 1000)) * random.random() // 1
+
+    def crash(self, random: Random) -> None:
+        if runs := [run for run in self.history.operator.runs if not run.over]:
+            pause = random.choice((0, 0.01, 1)) * random.random()
+            self.world.after(pause, random.choice(runs).crash)
+
+    def freeze(self, random: Random) -> None:
+        for run in [run for run in self.history.operator.runs if not run.over]:
+            run.frozen = True
+            self.world.after(length(random), self.thaw, run)
+
+    def thaw(self, run: "Run") -> None:
+        run.frozen = False
+        run.step_soon()
+
+    def pause(self, random: Random) -> None:
+        if bridge := self.a_bridge(random):
+            bridge.pause()
+            self.world.after(min(LONGEST, length(random) * self.stretch), bridge.resume)
+
+    def suspend(self, random: Random) -> None:
+        """A machine stands still, with its clock that isn't of the day."""
+        if bridge := self.a_bridge(random):
+            bridge.machine.suspend()
+            self.world.after(length(random), self.go_on, bridge.machine)
+
+    def go_on(self, machine: Machine) -> None:
+        machine.go_on()
+        for bridge in self.history.operator.bridges:
+            bridge.wake()
+
+    def clock(self, random: Random) -> None:
+        machine = random.choice(self.history.machines)
+        machine.offset += random.choice((-3600, -60, -1, 1, 60, 3600)) * random.random()
+
+    def off(self, random: Random) -> None:
+        if bridge := self.a_bridge(random):
+            self.turn_off(bridge, length(random))
+
+    def turn_off(self, bridge: Process, seconds: float) -> None:
+        operator, machine = self.history.operator, bridge.machine
+        self.world.note(machine.name, "off")
+        operator.power_off(machine)
+        self.world.after(seconds, operator.off.discard, machine.name)
+
+    def roll(self, _random: Random) -> None:
+        self.history.operator.roll()
+
+    def lease(self, random: Random) -> None:
+        """Somebody takes the Lease away from its holder, as a user may: its names stay."""
+        self.history.take_lease("" if random.random() < 0.5 else "somebody")
+
+    # The network and the servers
+
+    def cut(self, random: Random) -> None:
+        bridge = self.a_bridge(random)
+        machine = bridge.machine if bridge else random.choice(self.history.machines)
+        names = [server.name for server in self.history.servers]
+        names = names if self.struck or random.random() < 0.8 else names[:1]
+        ways = {(name, way) for name in names for way in random.choice(BOTH)}
+        self.cut_off(machine, ways, min(LONGEST, length(random) * self.stretch))
+
+    def cut_off(self, machine: Machine, ways: set[tuple[str, str]], seconds: float) -> None:
+        self.world.note(machine.name, f"cut off: {sorted(ways)}")
+        machine.cut |= ways
+        self.world.after(seconds, self.mend, machine, ways)
+
+    def mend(self, machine: Machine, ways: set[tuple[str, str]]) -> None:
+        self.world.note(machine.name, "reached again")
+        machine.cut -= ways
+
+    def down(self, random: Random) -> None:
+        server = random.choice(self.history.servers)
+        if server.up:
+            server.crash()
+            self.world.after(length(random), server.recover)
+
+    def stale(self, random: Random) -> None:
+        server = random.choice(self.history.servers)
+        server.lag = random.choice((0.3, 3, 30))
+        self.world.after(length(random), setattr, server, "lag", 0.0)
+
+    def storm(self, random: Random) -> None:
+        """Some kinds of faults of requests."""
+        kinds = [kind for kind in REQUESTS if kind not in self.without]
+        if kinds:
+            share = random.choice((0.1, 0.3, 0.6))
+            chosen = random.sample(kinds, random.randint(1, min(3, len(kinds))))
+            weather = self.history.weather
+            weather.shares = {kind: share / len(chosen) for kind in chosen}
+            weather.strikes = random.choice((0.0, 0.5, 0.9))
+            self.world.after(random.uniform(5, 150), setattr, weather, "shares", {})
+
+    def strike(self, process: Process, random: Random) -> None:
+        """Something befalls a process whose request has just gone wrong."""
+        if not self.history.is_calm:
+            kind = random.choice([kind for kind in STRIKES if kind not in self.without] or ["kill"])
+            self.stretch = random.choice((1.0, 1.0, 100.0))  # so that some outlast every wait
+            self.world.note("trouble", f"{kind} of {process.name} while its request is out")
+            self.counts[f"{kind} at a request"] = self.counts.get(f"{kind} at a request", 0) + 1
+            self.struck = process
+            getattr(self, kind)(random)
+            self.struck, self.stretch = None, 1.0
+
+    def watches(self, random: Random) -> None:
+        share = random.choice((0.02, 0.1))
+        weather = self.history.weather
+        weather.watches = {kind: share / len(WATCHES) for kind in WATCHES}
+        self.world.after(length(random) / 3, setattr, weather, "watches", {})
+
+    def compact(self, random: Random) -> None:
+        store = self.history.store
+        store.history = 3
+        self.world.after(length(random) / 5, setattr, store, "history", 1000)
+
+    def webhook(self, random: Random) -> None:
+        """A webhook for the services of one namespace is down. In half of the cases it stays so."""
+        weather = self.history.weather
+        weather.webhook = random.choice(("team-a", "team-b", "default"))
+        if random.random() < 0.5:
+            self.world.after(length(random), setattr, weather, "webhook", None)
+
+    # What a written history says
+
+    def named(self, said: Said) -> Process | None:
+        """The bridge of that number."""
+        name = f"bridge{said['bridge']}"
+        return next((one for one in self.history.operator.bridges if one.name == name), None)
+
+    def said_make(self, said: Said) -> None:
+        self.history.store.put(said["object"])
+
+    def said_delete(self, said: Said) -> None:
+        kind, namespace = BY_NAME[said["kind"]], said.get("namespace", "metallb-system")
+        self.history.store.delete(kind, (namespace, said["name"]))
+
+    def said_put(self, said: Said) -> None:
+        """The next put meets with this fault."""
+        self.history.weather.next_puts.append((said["fault"], said.get("seconds", 0.0)))
+
+    def said_start(self, _said: Said) -> None:
+        self.history.operator.start_elsewhere()
+
+    def said_kill(self, said: Said) -> None:
+        if bridge := self.named(said):
+            bridge.fuse = said.get("steps", 0)
+
+    def said_pause(self, said: Said) -> None:
+        if bridge := self.named(said):
+            bridge.pause()
+            self.world.after(said["seconds"], bridge.resume)
+
+    def said_off(self, said: Said) -> None:
+        if bridge := self.named(said):
+            self.turn_off(bridge, said["seconds"])
+
+    def said_cut(self, said: Said) -> None:
+        if bridge := self.named(said):
+            ways = {(server.name, way) for server in self.history.servers
+                    for way in said.get("ways", ("up", "down"))}
+            self.cut_off(bridge.machine, ways, said["seconds"])
+
+    def said_webhook(self, said: Said) -> None:
+        weather = self.history.weather
+        weather.webhook = said["namespace"]
+        if "seconds" in said:
+            self.world.after(said["seconds"], setattr, weather, "webhook", None)

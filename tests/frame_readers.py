@@ -1,18 +1,32 @@
 """What tshark and scapy read in Ethernet frames."""
+from __future__ import annotations
+
 import ipaddress
 import shutil
 import struct
 import subprocess
 import tempfile
 
+Parts = dict[str, str]
+FIELDS = [
+    "eth.dst", "eth.src", "arp.opcode", "arp.src.hw_mac", "arp.src.proto_ipv4", "icmpv6.type",
+    "icmpv6.checksum.status", "icmpv6.nd.na.target_address", "icmpv6.opt.linkaddr",
+    "_ws.malformed",
+]
 
-def parts_of(frame):
-    """What the bytes of a frame say: the hardware addresses of the frame and of its sender, and the address that it tells of."""
-    target = ipaddress.IPv4Address(frame[28:32]) if frame[12:14] == b"\x08\x06" else ipaddress.IPv6Address(frame[62:78])
+
+def parts_of(frame: bytes) -> Parts:
+    """What the bytes of a frame say: the hardware addresses of the frame and of its sender, and
+    the address that it tells of."""
+    target: ipaddress.IPv4Address | ipaddress.IPv6Address
+    if frame[12:14] == b"\x08\x06":
+        target = ipaddress.IPv4Address(frame[28:32])
+    else:
+        target = ipaddress.IPv6Address(frame[62:78])
     return {"to": frame[0:6].hex(":"), "from": frame[6:12].hex(":"), "address": str(target)}
 
 
-def by_tshark(frames):
+def by_tshark(frames: list[bytes]) -> list[Parts | str] | None:
     """What tshark reads in each frame, or None where it isn't installed."""
     if not shutil.which("tshark"):
         return None
@@ -21,14 +35,14 @@ def by_tshark(frames):
         for frame in frames:
             file.write(struct.pack("<IIII", 0, 0, len(frame), len(frame)) + frame)
         file.flush()
-        fields = ["eth.dst", "eth.src", "arp.opcode", "arp.src.hw_mac", "arp.src.proto_ipv4", "icmpv6.type", "icmpv6.checksum.status",
-                  "icmpv6.nd.na.target_address", "icmpv6.opt.linkaddr", "_ws.malformed"]
-        command = ["tshark", "-r", file.name, "-T", "fields", "-E", "separator=|", *[word for field in fields for word in ("-e", field)]]
-        told = subprocess.run(command, capture_output=True, timeout=120, check=True).stdout.decode()
-    return [read_fields(dict(zip(fields, line.split("|")))) for line in told.splitlines()]
+        words = [word for name in FIELDS for word in ("-e", name)]
+        command = ["tshark", "-r", file.name, "-T", "fields", "-E", "separator=|", *words]
+        ran = subprocess.run(command, capture_output=True, timeout=120, check=True)
+    lines = ran.stdout.decode().splitlines()
+    return [read_fields(dict(zip(FIELDS, line.split("|")))) for line in lines]
 
 
-def read_fields(told):
+def read_fields(told: Parts) -> Parts | str:
     """A reading of tshark's fields in the form of `parts_of`, or what is wrong."""
     if told["_ws.malformed"]:
         return "malformed"
@@ -38,11 +52,14 @@ def read_fields(told):
         sender, address = told["icmpv6.opt.linkaddr"], told["icmpv6.nd.na.target_address"]
     else:
         return f"neither a reply nor an advertisement with a right checksum: {told}"
-    return {"to": told["eth.dst"], "from": told["eth.src"], "address": address} if sender == told["eth.src"] else f"another sender: {told}"
+    if sender != told["eth.src"]:
+        return f"another sender: {told}"
+    return {"to": told["eth.dst"], "from": sender, "address": address}
 
 
-def by_scapy(frames):
-    """What scapy reads in each frame, or None where it isn't installed. It is for Debian's own Python."""
+def by_scapy(frames: list[bytes]) -> list[Parts | str] | None:
+    """What scapy reads in each frame, or None where it isn't installed. It is for Debian's own
+    Python."""
     reader = """
 import sys
 from scapy.all import ARP, Ether, ICMPv6ND_NA, ICMPv6NDOptDstLLAddr
@@ -61,8 +78,13 @@ for line in sys.stdin:
     print(frame.dst, frame.src, sender, address, sep='|')
 """
     lines = "".join(frame.hex() + "\n" for frame in frames)
-    ran = subprocess.run(["/usr/bin/python3", "-c", reader], input=lines.encode(), capture_output=True, timeout=120)
+    command = ["/usr/bin/python3", "-c", reader]
+    ran = subprocess.run(command, input=lines.encode(), capture_output=True, timeout=120)
     if ran.returncode:
         return None
-    read = [line.split("|") for line in ran.stdout.decode().splitlines()]
-    return [{"to": to, "from": source, "address": address} if sender == source else f"another sender: {sender}" for to, source, sender, address in read]
+    read: list[Parts | str] = []
+    for line in ran.stdout.decode().splitlines():
+        to, source, sender, address = line.split("|")
+        parts = {"to": to, "from": source, "address": address}
+        read.append(parts if sender == source else f"another sender: {sender}")
+    return read

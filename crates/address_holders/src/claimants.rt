@@ -1,7 +1,9 @@
 //! The claims that are listed at the addresses of one family.
-ghost use Rattle.std.specs.Prelude.{◌≡◌, ◌↔◌, ◌≤◌, ◌<◌, ◌+◌, ◌==◌, ℕ, ◌∷◌, ◌++◌, [], true, not, filter, if◌then◌else◌, IsTrue, OnOk, IfOk, IfSome, IfNone};
+ghost use Rattle.std.specs.Prelude.{◌≡◌, ◌↔◌, ◌≤◌, ◌<◌, ◌+◌, ◌==◌, ℕ, ◌∷◌, ◌++◌, [], true, not};
+ghost use Rattle.std.specs.Prelude.{filter, if◌then◌else◌, IsTrue, OnOk, IfOk, IfSome, IfNone};
 ghost use Rattle.mlb_base.specs.Items.{is_nil};
-ghost use Rattle.address_holders.specs.Holders.{claims_at, claim_room_at, is_listed, is_listed_but, is_open_at};
+ghost use Rattle.address_holders.specs.Holders.{claims_at, claim_room_at, is_listed, is_listed_but};
+ghost use Rattle.address_holders.specs.Holders.{is_open_at};
 ghost use Rattle.number_sets.specs.Least.{IsLeastIn, NonePasses};
 
 use mlb_base::NoMemory;
@@ -10,8 +12,9 @@ use numbered_items::InvertedIndex;
 use std::alloc::Global;
 use std::marker::Model;
 
-/// By each address of one family the numbers of the claims that are listed there, and beside them the runs of addresses that have
-/// such a claim. A look-up takes the logarithm of the number of addresses.
+/// By each address of one family the numbers of the claims that are listed there, and beside them
+/// the runs of addresses that have such a claim. A look-up takes the logarithm of the number of
+/// addresses.
 #[derive(Drop)]
 pub(crate) struct Claimants {
     by_number: InvertedIndex<u128>,
@@ -34,7 +37,8 @@ impl Model for Claimants {
 }
 
 impl Claimants {
-    /// No claim is listed. It takes no memory. It is said whether addresses are sought here inside their blocks.
+    /// No claim is listed. It takes no memory. It is said whether addresses are sought here inside
+    /// their blocks.
     pub(crate) fn new(alloc: Global, inside: bool) -> Claimants
         ensures numbers { claims_at result ≡ (λ n. []) }
     {
@@ -79,8 +83,11 @@ impl Claimants {
     pub(crate) fn add(&mut self, number: u128, claim: u64)
         requires claims { 0 < claim_room_at self.old number }
         requires addresses { 0 < self.old.room }
-        ensures numbers { claims_at self.new ≡ (λ n. if number == n then claims_at self.old n ++ claim ∷ [] else claims_at self.old n) }
-        ensures claims { (n : ℕ) → claim_room_at self.old n ≤ claim_room_at self.new n + (if number == n then 1 else 0) }
+        ensures numbers { claims_at self.new
+            ≡ (λ n. if number == n then claims_at self.old n ++ claim ∷ []
+            else claims_at self.old n) }
+        ensures claims { (n : ℕ) → claim_room_at self.old n
+            ≤ claim_room_at self.new n + (if number == n then 1 else 0) }
         ensures addresses { self.old.room ≤ self.new.room + 1 }
     {
         self.held.insert(number);
@@ -89,7 +96,9 @@ impl Claimants {
 
     /// The claim isn't listed at the address. It takes no memory.
     pub(crate) fn remove(&mut self, number: u128, claim: u64)
-        ensures numbers { claims_at self.new ≡ (λ n. if number == n then filter (λ c. not (c == claim)) (claims_at self.old n) else claims_at self.old n) }
+        ensures numbers { claims_at self.new
+            ≡ (λ n. if number == n then filter (λ c. not (c == claim)) (claims_at self.old n)
+            else claims_at self.old n) }
     {
         self.by_number.remove(&number, claim);
         if self.by_number.numbers(&number).is_empty() {
@@ -104,7 +113,8 @@ impl Claimants {
         self.by_number.numbers(&number)
     }
 
-    /// The least address from low to high at which no claim is listed, and that is no edge where it is sought inside blocks.
+    /// The least address from low to high at which no claim is listed, and that is no edge where it
+    /// is sought inside blocks.
     pub(crate) fn first_unclaimed(&self, inside: bool, low: u128, high: u128) -> Option<u128>
         ensures some { IfSome result (λ n. IsLeastIn (is_open_at inside self.now) low high n) }
         ensures none { IfNone result (NonePasses (is_open_at inside self.now) low high) }
@@ -114,16 +124,20 @@ impl Claimants {
 
     /// The least address from low to high at which a claim is listed.
     pub(crate) fn first_claimed(&self, low: u128, high: u128) -> Option<u128>
-        ensures some { IfSome result (λ n. IsLeastIn (λ m. not (is_nil (claims_at self.now m))) low high n) }
-        ensures none { IfNone result (NonePasses (λ m. not (is_nil (claims_at self.now m))) low high) }
+        ensures some { IfSome result (λ n. IsLeastIn
+            (λ m. not (is_nil (claims_at self.now m))) low high n) }
+        ensures none { IfNone result (NonePasses
+            (λ m. not (is_nil (claims_at self.now m))) low high) }
     {
         self.held.first_present(low, high)
     }
 
-    /// The least address from low to high at which a claim is listed here and none there, where all these addresses have claims here too.
+    /// The least address from low to high at which a claim is listed here and none there, where all
+    /// these addresses have claims here too.
     pub(crate) fn first_beyond(&self, fewer: &Claimants, low: u128, high: u128) -> Option<u128>
         requires { (n : ℕ) → is_listed fewer.now n ≡ true → is_listed self.now n ≡ true }
-        ensures some { IfSome result (λ n. IsLeastIn (is_listed_but self.now fewer.now) low high n) }
+        ensures some { IfSome result (λ n. IsLeastIn
+            (is_listed_but self.now fewer.now) low high n) }
         ensures none { IfNone result (NonePasses (is_listed_but self.now fewer.now) low high) }
     {
         self.held.first_beyond(&fewer.held, low, high)

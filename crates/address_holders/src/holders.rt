@@ -1,8 +1,10 @@
 //! Who has the addresses of one family.
-ghost use Rattle.std.specs.Prelude.{◌≡◌, ◌↔◌, ◌≤◌, ◌<◌, ◌+◌, ◌==◌, ℕ, ◌∷◌, ◌++◌, [], true, false, not, filter, if◌then◌else◌, IsTrue, OnOk, IfSome, IfNone};
+ghost use Rattle.std.specs.Prelude.{◌≡◌, ◌↔◌, ◌≤◌, ◌<◌, ◌+◌, ◌==◌, ℕ, ◌∷◌, ◌++◌, [], true, false};
+ghost use Rattle.std.specs.Prelude.{not, filter, if◌then◌else◌, IsTrue, OnOk, IfSome, IfNone};
 ghost use Rattle.mlb_base.specs.Items.{is_nil};
 ghost use Rattle.address_holders.specs.declared.slot.NumberedSlot.{NumberedSlot};
-ghost use Rattle.address_holders.specs.Holders.{claims_at, claim_room_at, in_slot_at, is_listed, is_listed_but, is_open_at};
+ghost use Rattle.address_holders.specs.Holders.{claims_at, claim_room_at, in_slot_at, is_listed};
+ghost use Rattle.address_holders.specs.Holders.{is_listed_but, is_open_at};
 ghost use Rattle.address_holders.specs.NumberedSlots.{same_slot};
 ghost use Rattle.number_sets.specs.Least.{IsLeastIn, NonePasses};
 
@@ -13,8 +15,8 @@ use std::alloc::Global;
 use std::collections::BTreeMap;
 use std::marker::Model;
 
-/// Who has the addresses of one family: in each slot the claims by their addresses. A slot in which no claim is listed any more is
-/// dropped.
+/// Who has the addresses of one family: in each slot the claims by their addresses. A slot in which
+/// no claim is listed any more is dropped.
 #[derive(Drop)]
 pub(crate) struct Holders {
     alloc: Global,
@@ -47,11 +49,14 @@ impl Holders {
         number: u128,
         more: usize,
     ) -> Result<(), NoMemory>
-        ensures numbers { (s : NumberedSlot) → claims_at (in_slot_at self.new s) ≡ claims_at (in_slot_at self.old s) }
+        ensures numbers { (s : NumberedSlot)
+            → claims_at (in_slot_at self.new s) ≡ claims_at (in_slot_at self.old s) }
         ensures claims { OnOk result (0 < claim_room_at (in_slot_at self.new slot.now) number) }
         ensures addresses { OnOk result (more ≤ (in_slot_at self.new slot.now).room) }
-        ensures claims_kept { (s : NumberedSlot) (n : ℕ) → claim_room_at (in_slot_at self.old s) n ≤ claim_room_at (in_slot_at self.new s) n }
-        ensures addresses_kept { (s : NumberedSlot) → (in_slot_at self.old s).room ≤ (in_slot_at self.new s).room }
+        ensures claims_kept { (s : NumberedSlot) (n : ℕ)
+            → claim_room_at (in_slot_at self.old s) n ≤ claim_room_at (in_slot_at self.new s) n }
+        ensures addresses_kept { (s : NumberedSlot)
+            → (in_slot_at self.old s).room ≤ (in_slot_at self.new s).room }
     {
         if let Some(claimants) = self.by_slot.get_mut(slot) {
             return claimants.reserve(number, more);
@@ -67,11 +72,15 @@ impl Holders {
         requires claims { 0 < claim_room_at (in_slot_at self.old slot.now) number }
         requires addresses { 0 < (in_slot_at self.old slot.now).room }
         ensures numbers { claims_at (in_slot_at self.new slot.now)
-            ≡ (λ n. if number == n then claims_at (in_slot_at self.old slot.now) n ++ claim ∷ [] else claims_at (in_slot_at self.old slot.now) n) }
+            ≡ (λ n. if number == n then claims_at (in_slot_at self.old slot.now) n ++ claim ∷ []
+            else claims_at (in_slot_at self.old slot.now) n) }
         ensures claims { (n : ℕ)
-            → claim_room_at (in_slot_at self.old slot.now) n ≤ claim_room_at (in_slot_at self.new slot.now) n + (if number == n then 1 else 0) }
-        ensures addresses { (in_slot_at self.old slot.now).room ≤ (in_slot_at self.new slot.now).room + 1 }
-        ensures others { (s : NumberedSlot) → same_slot slot.now s ≡ false → in_slot_at self.new s ≡ in_slot_at self.old s }
+            → claim_room_at (in_slot_at self.old slot.now) n
+            ≤ claim_room_at (in_slot_at self.new slot.now) n + (if number == n then 1 else 0) }
+        ensures addresses { (in_slot_at self.old slot.now).room
+            ≤ (in_slot_at self.new slot.now).room + 1 }
+        ensures others { (s : NumberedSlot) → same_slot slot.now s ≡ false
+            → in_slot_at self.new s ≡ in_slot_at self.old s }
     {
         let Some(claimants) = self.by_slot.get_mut(slot) else {
             return;
@@ -82,9 +91,11 @@ impl Holders {
     /// The claim isn't listed in the slot at the address. It takes no memory.
     pub(crate) fn remove(&mut self, slot: &NumberedSlot, number: u128, claim: u64)
         ensures numbers { claims_at (in_slot_at self.new slot.now)
-            ≡ (λ n. if number == n then filter (λ c. not (c == claim)) (claims_at (in_slot_at self.old slot.now) n)
+            ≡ (λ n. if number == n then filter (λ c. not (c == claim))
+            (claims_at (in_slot_at self.old slot.now) n)
             else claims_at (in_slot_at self.old slot.now) n) }
-        ensures others { (s : NumberedSlot) → same_slot slot.now s ≡ false → in_slot_at self.new s ≡ in_slot_at self.old s }
+        ensures others { (s : NumberedSlot) → same_slot slot.now s ≡ false
+            → in_slot_at self.new s ≡ in_slot_at self.old s }
     {
         let Some(claimants) = self.by_slot.get_mut(slot) else {
             return;
@@ -99,7 +110,8 @@ impl Holders {
     fn drop_empty(&mut self, slot: &NumberedSlot)
         requires { claims_at (in_slot_at self.old slot.now) ≡ (λ n. []) }
         ensures numbers { claims_at (in_slot_at self.new slot.now) ≡ (λ n. []) }
-        ensures others { (s : NumberedSlot) → same_slot slot.now s ≡ false → in_slot_at self.new s ≡ in_slot_at self.old s }
+        ensures others { (s : NumberedSlot) → same_slot slot.now s ≡ false
+            → in_slot_at self.new s ≡ in_slot_at self.old s }
     {
         let _empty = self.by_slot.remove(slot);
     }
@@ -124,8 +136,8 @@ impl Holders {
         }
     }
 
-    /// The least address from low to high at which no claim is listed in the slot, and that is no edge where it is sought inside
-    /// blocks.
+    /// The least address from low to high at which no claim is listed in the slot, and that is no
+    /// edge where it is sought inside blocks.
     pub(crate) fn first_unclaimed(
         &self,
         slot: &NumberedSlot,
@@ -133,8 +145,10 @@ impl Holders {
         low: u128,
         high: u128,
     ) -> Option<u128>
-        ensures some { IfSome result (λ n. IsLeastIn (is_open_at inside (in_slot_at self.now slot.now)) low high n) }
-        ensures none { IfNone result (NonePasses (is_open_at inside (in_slot_at self.now slot.now)) low high) }
+        ensures some { IfSome result (λ n. IsLeastIn
+            (is_open_at inside (in_slot_at self.now slot.now)) low high n) }
+        ensures none { IfNone result (NonePasses
+            (is_open_at inside (in_slot_at self.now slot.now)) low high) }
     {
         match self.by_slot.get(slot) {
             Some(claimants) => claimants.first_unclaimed(inside, low, high),
@@ -147,14 +161,16 @@ impl Holders {
 
     /// The least address from low to high at which a claim is listed in the slot.
     pub(crate) fn first_claimed(&self, slot: &NumberedSlot, low: u128, high: u128) -> Option<u128>
-        ensures some { IfSome result (λ n. IsLeastIn (λ m. not (is_nil (claims_at (in_slot_at self.now slot.now) m))) low high n) }
-        ensures none { IfNone result (NonePasses (λ m. not (is_nil (claims_at (in_slot_at self.now slot.now) m))) low high) }
+        ensures some { IfSome result (λ n. IsLeastIn
+            (λ m. not (is_nil (claims_at (in_slot_at self.now slot.now) m))) low high n) }
+        ensures none { IfNone result (NonePasses
+            (λ m. not (is_nil (claims_at (in_slot_at self.now slot.now) m))) low high) }
     {
         self.by_slot.get(slot)?.first_claimed(low, high)
     }
 
-    /// The least address from low to high at which a claim is listed in the slot and none in the other, where those of the other are
-    /// all listed in the slot.
+    /// The least address from low to high at which a claim is listed in the slot and none in the
+    /// other, where those of the other are all listed in the slot.
     pub(crate) fn first_beyond(
         &self,
         slot: &NumberedSlot,
@@ -162,9 +178,14 @@ impl Holders {
         low: u128,
         high: u128,
     ) -> Option<u128>
-        requires { (n : ℕ) → is_listed (in_slot_at self.now fewer.now) n ≡ true → is_listed (in_slot_at self.now slot.now) n ≡ true }
-        ensures some { IfSome result (λ n. IsLeastIn (is_listed_but (in_slot_at self.now slot.now) (in_slot_at self.now fewer.now)) low high n) }
-        ensures none { IfNone result (NonePasses (is_listed_but (in_slot_at self.now slot.now) (in_slot_at self.now fewer.now)) low high) }
+        requires { (n : ℕ) → is_listed (in_slot_at self.now fewer.now) n ≡ true
+            → is_listed (in_slot_at self.now slot.now) n ≡ true }
+        ensures some { IfSome result (λ n. IsLeastIn
+            (is_listed_but (in_slot_at self.now slot.now) (in_slot_at self.now fewer.now)) low high
+            n) }
+        ensures none { IfNone result (NonePasses
+            (is_listed_but (in_slot_at self.now slot.now) (in_slot_at self.now fewer.now)) low
+            high) }
     {
         let claimants = self.by_slot.get(slot)?;
         match self.by_slot.get(fewer) {

@@ -1,4 +1,5 @@
-//! Who has the addresses: by each address the numbers of the claims that have it, in the slots in which they are listed.
+//! Who has the addresses: by each address the numbers of the claims that have it, in the slots in
+//! which they are listed.
 #![tactic(auto)]
 
 mod address_holders;

@@ -8,9 +8,10 @@ use kube_model::{Event, Key, Kind, ListGroup, Object};
 use mlb_base::NoMemory;
 use pool_config::ObjectSet;
 
-/// Holds what the event shows of the configuration's objects. One whose version isn't greater than the held one is passed over; a
-/// deletion applies whatever its version; where all watches have expired, what isn't shown before the next end of the list is
-/// dropped then. Every other event is passed by. After want of memory the objects are unchanged.
+/// Holds what the event shows of the configuration's objects. One whose version isn't greater than
+/// the held one is ignored; a deletion applies whatever its version; where all watches have
+/// expired, what isn't shown before the next end of the list is dropped then. Every other event is
+/// ignored. Where memory ran out the objects are unchanged.
 pub fn hold(objects: &mut ObjectSet, event: Event) -> Result<(), NoMemory>
     ensures ok { OnOk result (objects.new ≡ objects_after (Watched event) objects.old) }
     ensures err { OnErr result (objects.new ≡ objects.old) }
@@ -41,7 +42,8 @@ pub fn hold(objects: &mut ObjectSet, event: Event) -> Result<(), NoMemory>
 
 #[tactic(auto, using(crate::proofs::Events::shown_is))]
 fn show(objects: &mut ObjectSet, version: u64, object: Object) -> Result<(), NoMemory>
-    ensures ok { OnOk result (objects.new ≡ objects_after (Watched (Changed version object)) objects.old) }
+    ensures ok { OnOk result (objects.new
+        ≡ objects_after (Watched (Changed version object)) objects.old) }
     ensures err { OnErr result (objects.new ≡ objects.old) }
 {
     let _is_held = objects.show(version, object)?;

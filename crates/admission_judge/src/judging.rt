@@ -1,7 +1,8 @@
 //! What is said of a change.
 ghost use Rattle.std.specs.Prelude.{◌≡◌, ◌↔◌, ℕ, List, IfOk};
 ghost use Rattle.pool_config.specs.Objects.{set_put};
-ghost use Rattle.admission_judge.specs.Judging.{unread_text, fault_text, after_change, verdict_of, verdict_on, IsAllowed, Names};
+ghost use Rattle.admission_judge.specs.Judging.{unread_text, fault_text, after_change, verdict_of};
+ghost use Rattle.admission_judge.specs.Judging.{verdict_on, IsAllowed, Names};
 
 use admission_reviews::{Change, Review, Verdict};
 use kube_labels::Text;
@@ -88,15 +89,18 @@ fn verdict_of(alloc: Global, objects: &ObjectSet, change: &Change) -> Result<Ver
     }
 }
 
-/// Whether the change of the review may be made to the objects: it changes nothing, or it can be read and the objects with it
-/// compile. Else the message names the first fault, `CAUSE KIND NAME`, or the field, `field PATH`. A change of an object of
-/// another kind than configurations are compiled from leaves the objects as they are, and these are compiled.
+/// Whether the change of the review may be made to the objects: it changes nothing, or it can be
+/// read and the objects with it compile. Else the message names the first fault, `CAUSE KIND NAME`,
+/// or the field, `field PATH`. A change of an object of another kind than configurations are
+/// compiled from leaves the objects as they are, and these are compiled.
 pub fn judge(alloc: Global, objects: &ObjectSet, review: &Review) -> Result<Verdict, NoMemory>
     ensures verdict { IfOk result (λ verdict. verdict ≡ verdict_of objects.now review.now.change) }
 
     // What is allowed, and what is named of what isn't, in the words of a configuration's faults.
-    ensures allowed { IfOk result (λ verdict. (verdict ≡ Verdict.Allowed) ↔ IsAllowed objects.now review.now.change) }
-    ensures refused { IfOk result (λ verdict. (message : List ℕ) → (verdict ≡ Verdict.Refused message) ↔ Names objects.now review.now.change message) }
+    ensures allowed { IfOk result (λ verdict. (verdict ≡ Verdict.Allowed)
+        ↔ IsAllowed objects.now review.now.change) }
+    ensures refused { IfOk result (λ verdict. (message : List ℕ)
+        → (verdict ≡ Verdict.Refused message) ↔ Names objects.now review.now.change message) }
 {
     verdict_of(alloc, objects, &review.change)
 }

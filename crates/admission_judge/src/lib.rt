@@ -1,4 +1,5 @@
-//! Whether a change of a configuration may be made: where the objects that are held compile with it.
+//! Whether a change of a configuration may be made: where the objects that are held compile with
+//! it.
 #![tactic(auto)]
 
 mod held;

@@ -44,10 +44,11 @@ pub(crate) fn admitted_from(alloc: Global, object: &Value) -> Result<Option<Obje
     }
 }
 
-/// The object that the value states, whatever its version; `None` where it isn't of a kind that a configuration is compiled
-/// from: IPAddressPool, L2Advertisement, BGPAdvertisement, BGPPeer, Community.
+/// The object that the value states, whatever its version; `None` where it isn't of a kind that a
+/// configuration is compiled from: IPAddressPool, L2Advertisement, BGPAdvertisement, BGPPeer,
+/// Community.
 ///
-/// `Field` with the path of the first field that isn't as stated; it is no other fault but `NoMemory`.
+/// `Field` with the path of the first field that is invalid; it is no other fault but `NoMemory`.
 pub fn read_admitted(alloc: Global, object: &Value) -> Result<Option<Object>, EventFault>
     ensures { GivesRead result (admitted_of (view object.now)) }
 {

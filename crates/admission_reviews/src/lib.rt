@@ -1,5 +1,5 @@
-//! Reviews of changes of a configuration (Kubernetes, `AdmissionReview` of `admission.k8s.io/v1`): what is asked, and the line
-//! that answers it.
+//! Reviews of changes of a configuration (Kubernetes, `AdmissionReview` of `admission.k8s.io/v1`):
+//! what is asked, and the line that answers it.
 #![tactic(auto)]
 
 mod admitted;

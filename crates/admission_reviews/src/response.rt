@@ -2,7 +2,8 @@
 ghost use Rattle.std.specs.Prelude.{◌≡◌, IfOk, false};
 ghost use Rattle.serde_json.specs.View.{view};
 ghost use Rattle.serde_json.specs.Written.{has_float, compact_text};
-ghost use Rattle.admission_reviews.specs.Responses.{allowed_data, refused_data, verdict_data, response_data, response_text};
+ghost use Rattle.admission_reviews.specs.Responses.{allowed_data, refused_data, verdict_data};
+ghost use Rattle.admission_reviews.specs.Responses.{response_data, response_text};
 
 use kube_labels::Text;
 use mlb_base::NoMemory;

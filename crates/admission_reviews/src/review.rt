@@ -5,8 +5,10 @@ ghost use Rattle.json_fields.specs.Reading.{Gives, GivesIf};
 ghost use Rattle.kube_events.specs.Fields.{name_field};
 ghost use Rattle.admission_reviews.specs.Given.{GivesLine};
 ghost use Rattle.admission_reviews.specs.Admitted.{admitted_of};
-ghost use Rattle.admission_reviews.specs.Reviews.{set_change, remove_change, removal, written_of, gone_of};
-ghost use Rattle.admission_reviews.specs.Reviews.{change_by, request_of, is_review, review_of, review_of_line};
+ghost use Rattle.admission_reviews.specs.Reviews.{set_change, remove_change, removal, written_of};
+ghost use Rattle.admission_reviews.specs.Reviews.{gone_of};
+ghost use Rattle.admission_reviews.specs.Reviews.{change_by, request_of, is_review, review_of};
+ghost use Rattle.admission_reviews.specs.Reviews.{review_of_line};
 
 use crate::admitted::{admitted_from, is_config_kind};
 use crate::operation::Operation;
@@ -24,7 +26,7 @@ pub enum Change {
     Set { object: Object },
     /// The object of this kind and name is taken out.
     Remove { kind: Kind, name: Text },
-    /// The field of the object at this path isn't as stated.
+    /// The field of the object at this path is invalid.
     Unread { path: Text },
     Nothing,
 }
@@ -175,10 +177,11 @@ fn review_from(alloc: Global, value: &Value) -> Result<Option<Review>, FieldFaul
     }
 }
 
-/// The review that a line asks for, or nothing where it is no object whose `kind` is `AdmissionReview`.
+/// The review that a line asks for, or nothing where it is no object whose `kind` is
+/// `AdmissionReview`.
 ///
 /// `NotJson` where the line is no JSON text (RFC 8259) that is nested at most 127 deep; `Field` with the path of the first
-/// field of the request that isn't as stated; `NotEvent` never. A field of the object at fault is no fault of the line: the
+/// field of the request that is invalid; `NotEvent` never. A field of the object at fault is no fault of the line: the
 /// review's change is `Unread` then.
 #[tactic(auto, unfolding(crate::specs::Reviews::review_of_line))]
 pub fn read_review(alloc: Global, line: &[u8]) -> Result<Option<Review>, EventFault>

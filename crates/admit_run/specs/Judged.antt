@@ -32,7 +32,7 @@ IsRightAt (Some review) bytes earlier entries Rest =
     (answer : Answer) × (rest : List TranscriptEntry) × (entries ≡ Answered answer ∷ rest) × IsRightAnswer review answer earlier × Rest earlier rest
 IsRightAt None bytes earlier entries Rest = IsRightAfter (event_of_line bytes) earlier entries Rest
 
--- Behind what was shown earlier, the newest first, these are the answers to the lines: one to each review, in their order, up to a line that is
+-- After what was shown earlier, the newest first, these are the answers to the lines: one to each review, in their order, up to a line that is
 -- neither a review nor an event; and each is right by what the events before it showed.
 abbrev pub AreRight : List Line → List Observation → List TranscriptEntry → Type 0
 AreRight [] earlier entries = entries ≡ []

@@ -4,7 +4,8 @@ ghost use Rattle.mlb_edge.specs.Written.{Grows};
 ghost use Rattle.line_run.specs.Steps.{Takes, Refuses};
 ghost use Rattle.line_run.specs.Text.{Halts};
 ghost use Rattle.admit_run.specs.declared.work.Work.TheVariants.{Judging, Explaining};
-ghost use Rattle.admit_run.specs.Stream.{Answered, readable_review, answer_of, told_of, entry_text, admit_rules};
+ghost use Rattle.admit_run.specs.Stream.{Answered, readable_review, answer_of, told_of, entry_text};
+ghost use Rattle.admit_run.specs.Stream.{admit_rules};
 
 use crate::work::Work;
 use admission_judge::{hold, judge};
@@ -43,7 +44,8 @@ fn answer<K: Sink>(
 ) -> Result<(), Halt>
     ensures ok { OnOk result (Grows (K.written out.old) (K.written out.new)
         (entry_text (Answered (answer_of objects.now review.now)))) }
-    ensures err { IfErr result (λ halt. Halts halt (entry_text (Answered (answer_of objects.now review.now)))
+    ensures err { IfErr result (λ halt. Halts halt
+        (entry_text (Answered (answer_of objects.now review.now)))
         (K.written out.old) (K.written out.new) (K.faults out.old) (K.faults out.new)) }
     ensures later { K.faults out.old ≤ K.faults out.new }
 {
@@ -70,7 +72,8 @@ fn answer_line<K: Sink>(
     requires { readable_review line.now.bytes ≡ Some review.now }
     ensures ok { OnOk result (Takes admit_rules (Judging objects.now) (Judging objects.now) line.now
         (K.written out.old) (K.written out.new)) }
-    ensures err { IfErr result (λ refusal. Refuses refusal admit_rules (Judging objects.now) line.now
+    ensures err { IfErr result (λ refusal. Refuses refusal admit_rules
+        (Judging objects.now) line.now
         (K.written out.old) (K.written out.new) (K.faults out.old) (K.faults out.new)) }
     ensures later { K.faults out.old ≤ K.faults out.new }
 {
@@ -159,7 +162,8 @@ fn judge_line<K: Sink>(
 
 /// Tells what the line is read as.
 fn tell<K: Sink>(alloc: Global, line: &Line, out: &mut K) -> Result<(), Halt>
-    ensures ok { OnOk result (Grows (K.written out.old) (K.written out.new) (entry_text (told_of line.now))) }
+    ensures ok { OnOk result (Grows (K.written out.old) (K.written out.new)
+        (entry_text (told_of line.now))) }
     ensures err { IfErr result (λ halt. Halts halt (entry_text (told_of line.now))
         (K.written out.old) (K.written out.new) (K.faults out.old) (K.faults out.new)) }
     ensures later { K.faults out.old ≤ K.faults out.new }

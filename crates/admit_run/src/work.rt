@@ -45,8 +45,8 @@ fn asked_by(alloc: Global, words: &[String]) -> Option<Work>
     asked_first(word.as_str(), rest)
 }
 
-/// The work that a run begins with: no word asks for answers to reviews, `--explain` for what the lines are read as. `None` where the words
-/// aren't of the table.
+/// The work that a run begins with: no word asks for answers to reviews, `--explain` for what the
+/// lines are read as. `None` where the words aren't of the table.
 #[tactic(auto, using(crate::proofs::Asked::known_where, crate::proofs::Asked::begun_where, crate::proofs::Asked::unknown_where))]
 pub(crate) fn work_asked(alloc: Global, words: &[String]) -> Option<Work>
     ensures known { OnSome result (AreKnown (texts_of words.now)) }

@@ -1,4 +1,4 @@
--- Entries that are passed over.
+-- Entries that are ignored.
 use Rattle.std.proofs.Common.{◌≡◌, ℕ, ◌+◌, ◌<◌, ◌≤◌, zero, suc, Bool, true, false, List, [], ◌∷◌, ◌++◌, drop, drop-cons, length}
 use Rattle.std.proofs.Common.{cond, find, is_some, Option, Some, None, IfSome, inl, inr, refl, sym, ap, ◌∙◌, subst, arith, ⊎_elim, add-one, true≢false}
 use Rattle.std.proofs.lemmas.Bool.{cases_lt}
@@ -110,7 +110,7 @@ first-of : {X : Type 0} (first rest : Option X) → is_some first ≡ true → o
 first-of None rest some = absurd (true≢false (sym some))
 first-of (Some x) rest some = refl
 
--- spans are gone through, and some are passed over
+-- spans are gone through, and some are ignored
 module _ (test : AddressValue → Bool) (family : Family) where
   pub skipped : (spans : List SpanValue) (from upto : ℕ) → from ≤ upto
       → ((k : ℕ) (span : SpanValue) → from ≤ k → k < upto → slice_get spans k ≡ Some span → least_in test family span ≡ None)
@@ -128,7 +128,7 @@ module _ (test : AddressValue → Bool) (family : Family) where
   skipped (span ∷ spans) (suc from) (suc upto) more none =
       skipped spans from upto (omega (arith, more)) (λ k s begun below at. none (suc k) s (omega (arith, begun)) (omega (arith, below)) at)
 
-  -- a span without an address is passed, and those behind it that are passed over
+  -- a span without an address is passed, and those after it that are ignored
   pub passed-on : (spans : List SpanValue) (at : ℕ) (first : SpanValue) (next : ℕ) → slice_get spans at ≡ Some first → least_in test family first ≡ None
       → at + 1 ≤ next
       → ((k : ℕ) (span : SpanValue) → at + 1 ≤ k → k < next → slice_get spans k ≡ Some span → least_in test family span ≡ None)
@@ -143,7 +143,7 @@ module _ (test : AddressValue → Bool) (family : Family) where
       subst (λ (s : SpanValue). least_in test family s ≡ None) is none)
       (cases_lt at k))
 
-  -- a span and those behind it
+  -- a span and those after it
   pub listed-at : (spans : List SpanValue) (at : ℕ) (span : SpanValue) → slice_get spans at ≡ Some span
       → least_of test family (drop at spans) ≡ or_else (least_in test family span) (least_of test family (drop (at + 1) spans))
   listed-at spans at span there =
@@ -159,6 +159,6 @@ module _ (test : AddressValue → Bool) (family : Family) where
   listed-least spans at span there some =
       listed-at spans at span there ∙ first-of (least_in test family span) (least_of test family (drop (at + 1) spans)) some
 
-  -- behind all of them there is none
+  -- after all of them there is none
   pub listed-none : (spans : List SpanValue) (at : ℕ) → None ≡ slice_get spans at → None ≡ least_of test family (drop at spans)
   listed-none spans at past = sym (ap (least_of test family) (past-all spans at past))

@@ -1,4 +1,4 @@
--- Where the least usable address is looked for, and which addresses a search may pass over.
+-- Where the least usable address is looked for, and which addresses a search may skip.
 use Rattle.std.specs.Prelude.{◌≡◌, ◌≤◌, ◌<◌, ℕ, Bool, true, false, ◌&&◌, not, List, Option, Some, None}
 use Rattle.std.specs.List.{list_any}
 use Rattle.ip_ranges.specs.Values.{AddressValue, has_address, is_buggy}

@@ -1,5 +1,6 @@
 //! The book of claims.
-ghost use Rattle.std.specs.Prelude.{◌≡◌, ◌↔◌, ◌==◌, ◌&&◌, ◌||◌, nat_lt, find, [], not, filter, Some, IsTrue, IfOk, IfSome, IfNone, OnOk, OnErr};
+ghost use Rattle.std.specs.Prelude.{◌≡◌, ◌↔◌, ◌==◌, ◌&&◌, ◌||◌, nat_lt, find, [], not, filter};
+ghost use Rattle.std.specs.Prelude.{Some, IsTrue, IfOk, IfSome, IfNone, OnOk, OnErr};
 ghost use Rattle.std.specs.List.{list_any};
 ghost use Rattle.std.specs.List.Sorted.{IsStrictlySortedBy};
 ghost use Rattle.std.specs.Map.{lookup, keys_of, values_of};
@@ -13,7 +14,8 @@ ghost use Rattle.sharing_terms.specs.Spelled.{recorded_terms};
 ghost use Rattle.sharing_terms.specs.Terms.{terms_of};
 ghost use Rattle.alloc_book.specs.declared.choice.Choice.{Choice};
 ghost use Rattle.alloc_book.specs.Asking.{offer_of};
-ghost use Rattle.claim_index.specs.Claims.{AreAssigned, ClaimValue, others, settled, doubted, doubted_by, loses, has_claims, holders, terms_under};
+ghost use Rattle.claim_index.specs.Claims.{AreAssigned, ClaimValue, others, settled, doubted};
+ghost use Rattle.claim_index.specs.Claims.{doubted_by, loses, has_claims, holders, terms_under};
 ghost use Rattle.alloc_book.specs.Book.{HasLost, HasRoom, loss_of};
 ghost use Rattle.alloc_book.specs.Choose.{choose};
 ghost use Rattle.alloc_book.specs.Chosen.{IsChosen};
@@ -36,11 +38,12 @@ use sharing_terms::Terms;
 use std::alloc::Global;
 use std::marker::Model;
 
-/// The records that each service has, or may have: those with an address. Those of a key and those that have an address are found in
-/// the logarithm of their number. A change takes this for each address of the record, once among all records there, once among those of
-/// its group and once for each port of its mark, and moves what stands behind it: the runs of held addresses, and where a record goes,
-/// the numbers of those that came later. Contracts see the list of the records, and for how much more there is room, which may end with
-/// the next change or reservation.
+/// The records that each service has, or may have: those with an address. Those of a key and those
+/// that have an address are found in the logarithm of their number. A change takes this for each
+/// address of the record, once among all records there, once among those of its group and once for
+/// each port of its mark, and moves what stands after it: the runs of held addresses, and where a
+/// record goes, the numbers of those that came later. Contracts see the list of the records, and
+/// for how much more there is room, which may end with the next change or reservation.
 pub struct Book {
     alloc: Global,
     index: EntryClaims,
@@ -81,7 +84,8 @@ fn loss_of(is_lost: bool) -> Loss
 /// The key of the claim has this claim alone. It takes no memory.
 fn remove_others(index: &mut EntryClaims, number: u64)
     ensures items { (c : ClaimValue) → lookup (λ n. n == number) index.old.items ≡ Some c
-        → index.new.items ≡ filter (λ p. not (same_key p.1.key c.key) || (p.0 == number)) index.old.items }
+        → index.new.items ≡ filter (λ p. not (same_key p.1.key c.key) || (p.0 == number))
+        index.old.items }
     ensures ascending { IsStrictlySortedBy nat_cmp (keys_of index.old.items) }
     ensures entries { index.new.entries ≡ index.old.entries }
 {
@@ -105,7 +109,8 @@ fn remove_all(index: &mut EntryClaims, key: &Key)
 
 /// The first claim from this number on whose key the list doesn't show.
 fn first_unlisted<L: Listing>(index: &ClaimIndex, listing: &L, from: u64) -> Option<u64>
-    ensures first { result ≡ option_map (λ p. p.0) (find (λ p. not (nat_lt p.0 from) && not (L.lists listing.now p.1.key)) index.now.items) }
+    ensures first { result ≡ option_map (λ p. p.0)
+        (find (λ p. not (nat_lt p.0 from) && not (L.lists listing.now p.1.key)) index.now.items) }
     ensures ascending { IsStrictlySortedBy nat_cmp (keys_of index.now.items) }
 {
     let mut next = from;
@@ -142,8 +147,9 @@ impl Book {
         }
     }
 
-    /// Addresses are chosen from the pools of this configuration from now on: it is kept which of their entries are full, so that no
-    /// choice looks for a free address there. Where there is no memory it is kept of none.
+    /// Addresses are chosen from the pools of this configuration from now on: it is kept which of
+    /// their entries are full, so that no choice looks for a free address there. Where there is no
+    /// memory it is kept of none.
     pub fn enter(&mut self, config: &Config)
         ensures claims { self.new.claims ≡ self.old.claims }
         ensures room { self.new.room ≡ self.old.room }
@@ -166,8 +172,10 @@ impl Book {
 
     fn put(&mut self, claim: Claim) -> Loss
         requires { HasRoom self.old claim }
-        ensures claims { self.new.claims ≡ settled claim.key claim.holding claim.terms self.old.claims }
-        ensures loss { result ≡ loss_of (loses claim.key claim.holding claim.terms self.old.claims) }
+        ensures claims { self.new.claims
+            ≡ settled claim.key claim.holding claim.terms self.old.claims }
+        ensures loss { result ≡ loss_of
+            (loses claim.key claim.holding claim.terms self.old.claims) }
         ensures assigned { AreAssigned self.old.claims }
         ensures entries { self.new.entries ≡ self.old.entries }
     {
@@ -182,23 +190,28 @@ impl Book {
         loss_of(is_lost)
     }
 
-    /// The claim's key has this claim and no other, or none where its record has no address. There is room for it, so it takes no
-    /// memory. `Lost` is answered exactly where a claim that stood, its terms included, isn't there any more.
+    /// The claim's key has this claim and no other, or none where its record has no address. There
+    /// is room for it, so it takes no memory. `Lost` is answered exactly where a claim that stood,
+    /// its terms included, isn't there any more.
     pub fn settle_prepared(&mut self, claim: Claim) -> Loss
         requires { HasRoom self.old claim }
-        ensures claims { self.new.claims ≡ settled claim.key claim.holding claim.terms self.old.claims }
+        ensures claims { self.new.claims
+            ≡ settled claim.key claim.holding claim.terms self.old.claims }
         ensures loss { (result ≡ Loss.Lost) ↔ HasLost self.old.claims self.new.claims }
         ensures entries { self.new.entries ≡ self.old.entries }
     {
         self.put(claim)
     }
 
-    /// The key's claims become the one of this record, under the terms of its mark or, where it is the mark of none, the adopted ones;
-    /// none where it has no address. `Lost` is answered exactly where a claim that stood, its terms included, isn't there any more. Where
-    /// there is no memory all claims stay.
+    /// The key's claims become the one of this record, under the terms of its mark or, where it is
+    /// the mark of none, the adopted ones; none where it has no address. `Lost` is answered exactly
+    /// where a claim that stood, its terms included, isn't there any more. Where there is no memory
+    /// all claims stay.
     pub fn settle(&mut self, key: &Key, holding: &Record, adopted: &Terms) -> Result<Loss, NoMemory>
-        ensures ok { OnOk result (self.new.claims ≡ settled key.now holding.now (terms_under holding.now adopted.now) self.old.claims) }
-        ensures loss { IfOk result (λ loss. (loss ≡ Loss.Lost) ↔ HasLost self.old.claims self.new.claims) }
+        ensures ok { OnOk result (self.new.claims
+            ≡ settled key.now holding.now (terms_under holding.now adopted.now) self.old.claims) }
+        ensures loss { IfOk result (λ loss. (loss ≡ Loss.Lost)
+            ↔ HasLost self.old.claims self.new.claims) }
         ensures err { OnErr result (self.new.claims ≡ self.old.claims) }
         ensures entries { self.new.entries ≡ self.old.entries }
     {
@@ -210,11 +223,12 @@ impl Book {
         Ok(self.settle_prepared(claim))
     }
 
-    /// The claim's key has this claim too, unless it stands already or its record has no address. There is room for it, so it takes
-    /// no memory.
+    /// The claim's key has this claim too, unless it stands already or its record has no address.
+    /// There is room for it, so it takes no memory.
     pub fn doubt_prepared(&mut self, claim: Claim)
         requires { HasRoom self.old claim }
-        ensures claims { self.new.claims ≡ doubted claim.key claim.holding claim.terms self.old.claims }
+        ensures claims { self.new.claims
+            ≡ doubted claim.key claim.holding claim.terms self.old.claims }
         ensures entries { self.new.entries ≡ self.old.entries }
     {
         let stands = self.index().claims_it(&claim);
@@ -226,7 +240,8 @@ impl Book {
     }
 
     fn doubt_claim(&mut self, claim: Claim) -> Result<(), NoMemory>
-        ensures ok { OnOk result (self.new.claims ≡ doubted claim.key claim.holding claim.terms self.old.claims) }
+        ensures ok { OnOk result (self.new.claims
+            ≡ doubted claim.key claim.holding claim.terms self.old.claims) }
         ensures err { OnErr result (self.new.claims ≡ self.old.claims) }
         ensures entries { self.new.entries ≡ self.old.entries }
     {
@@ -238,8 +253,9 @@ impl Book {
         Ok(())
     }
 
-    /// The key may have this record too, under the terms of its mark, unless that claim stands already or the record has no address. A
-    /// record that is the mark of no terms adds nothing. Where there is no memory all claims stay.
+    /// The key may have this record too, under the terms of its mark, unless that claim stands
+    /// already or the record has no address. A record that is the mark of no terms adds nothing.
+    /// Where there is no memory all claims stay.
     pub fn doubt(&mut self, key: &Key, holding: &Record) -> Result<(), NoMemory>
         ensures ok { OnOk result (self.new.claims ≡ doubted_by key.now holding.now (recorded_terms holding.now.mark) self.old.claims) }
         ensures err { OnErr result (self.new.claims ≡ self.old.claims) }
@@ -261,7 +277,8 @@ impl Book {
         loss_of(is_lost)
     }
 
-    /// The key has no claims afterwards. `Lost` is answered exactly where it had one. It takes no memory.
+    /// The key has no claims afterwards. `Lost` is answered exactly where it had one. It takes no
+    /// memory.
     pub fn drop_name(&mut self, key: &Key) -> Loss
         ensures claims { self.new.claims ≡ others key.now self.old.claims }
         ensures loss { (result ≡ Loss.Lost) ↔ HasLost self.old.claims self.new.claims }
@@ -287,8 +304,11 @@ impl Book {
 
     /// Whether the claim's key has a claim that settling this one gives up: another one.
     pub fn loses(&self, claim: &Claim) -> bool
-        ensures value { result ≡ loses claim.now.key claim.now.holding claim.now.terms self.now.claims }
-        ensures meaning { IsTrue result ↔ HasLost self.now.claims (settled claim.now.key claim.now.holding claim.now.terms self.now.claims) }
+        ensures value { result ≡ loses claim.now.key claim.now.holding claim.now.terms
+            self.now.claims }
+        ensures meaning { IsTrue result
+            ↔ HasLost self.now.claims (settled claim.now.key claim.now.holding claim.now.terms
+            self.now.claims) }
     {
         self.index().loses(claim)
     }
@@ -315,8 +335,9 @@ impl Book {
         &self.index
     }
 
-    /// Whether a service of this key and these terms may use the address of the pool: it lies in the pool, isn't one that the
-    /// pool avoids, and each claim of another key that has it may share by the claim's own terms. It takes no memory.
+    /// Whether a service of this key and these terms may use the address of the pool: it lies in
+    /// the pool, isn't one that the pool avoids, and each claim of another key that has it may
+    /// share by the claim's own terms. It takes no memory.
     pub fn usable(
         &self,
         pool: &CompiledPool,
@@ -324,13 +345,14 @@ impl Book {
         terms: &GroupedTerms,
         address: &Address,
     ) -> bool
-        ensures { IsTrue result ↔ IsUsable (holders self.now.claims) key.now terms.now pool.now address.now }
+        ensures { IsTrue result ↔ IsUsable
+            (holders self.now.claims) key.now terms.now pool.now address.now }
     {
         usable(self, pool, key, terms, address)
     }
 
-    /// The first address of the family that may be used: entries as listed, addresses of an entry ascending; `None` exactly where
-    /// none may. It takes no memory.
+    /// The first address of the family that may be used: entries as listed, addresses of an entry
+    /// ascending; `None` exactly where none may. It takes no memory.
     pub fn least_usable(
         &self,
         pool: &CompiledPool,
@@ -338,15 +360,17 @@ impl Book {
         terms: &GroupedTerms,
         family: Family,
     ) -> Option<Address>
-        ensures least { IfSome result (IsLeast (holders self.now.claims) key.now terms.now pool.now family) }
+        ensures least { IfSome result (IsLeast
+            (holders self.now.claims) key.now terms.now pool.now family) }
         ensures none { IfNone result ((a : AddressValue)
             → ¬ (IsUsableOf (holders self.now.claims) key.now terms.now pool.now family a)) }
     {
         least_usable(self, pool, key, terms, family)
     }
 
-    /// What is chosen for the service, whose namespace has these labels, by the claims of the book: the first case of the table
-    /// that holds. A chosen record has the mark of the service's terms. The configuration is the one that was entered, if one was.
+    /// What is chosen for the service, whose namespace has these labels, by the claims of the book:
+    /// the first case of the table that holds. A chosen record has the mark of the service's terms.
+    /// The configuration is the one that was entered, if one was.
     pub fn choose(
         &self,
         config: &Config,
@@ -356,15 +380,19 @@ impl Book {
     ) -> Result<Choice, NoMemory>
         requires { AreThose config.now.pools self.now.entries }
         ensures value { IfOk result (λ c. c
-            ≡ choose self.now.claims (offer_of config.now.pools service.now namespace.now) (option_copied class.entry) service.now) }
+            ≡ choose self.now.claims (offer_of config.now.pools service.now namespace.now)
+            (option_copied class.entry) service.now) }
         ensures chosen { IfOk result (IsChosen (holders self.now.claims)
-            (offer_of config.now.pools service.now namespace.now) (option_copied class.entry) service.now) }
+            (offer_of config.now.pools service.now namespace.now)
+            (option_copied class.entry) service.now) }
         ensures only { IfOk result (λ c. (d : Choice) → IsChosen (holders self.now.claims)
-            (offer_of config.now.pools service.now namespace.now) (option_copied class.entry) service.now d → d ≡ c) }
+            (offer_of config.now.pools service.now namespace.now)
+            (option_copied class.entry) service.now d → d ≡ c) }
 
         // The terms of the service are terms, so the mark of a chosen record is read back.
         ensures terms { OnOk result (AreTerms (terms_of service.now)) }
-        ensures marked { IfOk result (λ c. (r : Record) → IsFor r c → IsMarkOf (terms_of service.now) r.mark) }
+        ensures marked { IfOk result (λ c. (r : Record) → IsFor r c
+            → IsMarkOf (terms_of service.now) r.mark) }
     {
         choose(self.alloc, self, config, class, service, namespace)
     }

@@ -7,9 +7,11 @@ ghost use Rattle.sharing_terms.specs.Terms.{terms_of};
 ghost use Rattle.full_entries.specs.Entries.{AreThose};
 ghost use Rattle.pool_choice.specs.Eligible.{eligible};
 ghost use Rattle.alloc_book.specs.Asking.{offer_of};
-ghost use Rattle.alloc_book.specs.Choose.{new_or, is_unusable, is_refused, asked_from, kept_from, from_asked};
+ghost use Rattle.alloc_book.specs.Choose.{new_or, is_unusable, is_refused, asked_from, kept_from};
+ghost use Rattle.alloc_book.specs.Choose.{from_asked};
 ghost use Rattle.alloc_book.specs.Choosing.{IsEntered, claims_in, offer_for, asker_in};
-ghost use Rattle.alloc_book.specs.Choose.{from_eligible, unasked, anew, granted, pooled, fitting, choose_for, choose};
+ghost use Rattle.alloc_book.specs.Choose.{from_eligible, unasked, anew, granted, pooled, fitting};
+ghost use Rattle.alloc_book.specs.Choose.{choose_for, choose};
 
 use crate::booking::Book;
 use crate::choice::Choice;
@@ -35,7 +37,8 @@ fn new_or(reason: Reason, found: Option<Record>) -> Choice
     }
 }
 
-/// A service for which addresses are chosen, by whose claims, from which pools, under which terms, and by which labels of its namespace.
+/// A service for which addresses are chosen, by whose claims, from which pools, under which terms,
+/// and by which labels of its namespace.
 #[derive(Drop)]
 struct Choosing<'a> {
     alloc: Global,
@@ -57,7 +60,8 @@ impl<'a> Choosing<'a> {
     /// A new record from the pool that is asked for.
     fn from_asked(&self) -> Result<Choice, NoMemory>
         requires { IsEntered self.now }
-        ensures { IfOk result (λ c. c ≡ from_asked (claims_in self.now) (offer_for self.now) (asker_in self.now)) }
+        ensures { IfOk result (λ c. c ≡ from_asked (claims_in self.now) (offer_for self.now)
+            (asker_in self.now)) }
     {
         let reason = Reason::PoolExhausted;
         match named(self.pools(), &self.service.pool_asked) {
@@ -72,7 +76,8 @@ impl<'a> Choosing<'a> {
     /// A new record from the first eligible pool that can give one.
     fn from_eligible(&self) -> Result<Choice, NoMemory>
         requires { IsEntered self.now }
-        ensures { IfOk result (λ c. c ≡ from_eligible (claims_in self.now) (offer_for self.now) (asker_in self.now)) }
+        ensures { IfOk result (λ c. c ≡ from_eligible (claims_in self.now) (offer_for self.now)
+            (asker_in self.now)) }
     {
         let pools = eligible_pools(self.alloc, self.config, self.service, self.namespace)?;
         if pools.is_empty() {
@@ -94,7 +99,8 @@ impl<'a> Choosing<'a> {
     /// Cases 11 to 13: no addresses are asked for.
     fn unasked(&self) -> Result<Choice, NoMemory>
         requires { IsEntered self.now }
-        ensures { IfOk result (λ c. c ≡ unasked (claims_in self.now) (offer_for self.now) (asker_in self.now)) }
+        ensures { IfOk result (λ c. c ≡ unasked (claims_in self.now) (offer_for self.now)
+            (asker_in self.now)) }
     {
         if is_given(&self.service.pool_asked) {
             self.from_asked()
@@ -105,7 +111,8 @@ impl<'a> Choosing<'a> {
 
     /// Whether there is such a pool, from which not all the addresses asked for may be used.
     fn is_unusable(&self, home: Option<&CompiledPool>) -> bool
-        ensures { result ≡ is_unusable (claims_in self.now) (asker_in self.now) (option_copied home.entry) }
+        ensures { result ≡ is_unusable (claims_in self.now) (asker_in self.now)
+            (option_copied home.entry) }
     {
         let Some(pool) = home else {
             return false;
@@ -143,7 +150,8 @@ impl<'a> Choosing<'a> {
     /// Cases 8 to 13: the recorded addresses may not stay.
     fn anew(&self) -> Result<Choice, NoMemory>
         requires { IsEntered self.now }
-        ensures { IfOk result (λ c. c ≡ anew (claims_in self.now) (offer_for self.now) (asker_in self.now)) }
+        ensures { IfOk result (λ c. c ≡ anew (claims_in self.now) (offer_for self.now)
+            (asker_in self.now)) }
     {
         if !is_asked(&self.service.wanted) {
             return self.unasked();
@@ -165,7 +173,8 @@ impl<'a> Choosing<'a> {
     /// Cases 7 to 13: what is asked for can be read, and the pool asked for may be used.
     fn granted(&self) -> Result<Choice, NoMemory>
         requires { IsEntered self.now }
-        ensures { IfOk result (λ c. c ≡ granted (claims_in self.now) (offer_for self.now) (asker_in self.now)) }
+        ensures { IfOk result (λ c. c ≡ granted (claims_in self.now) (offer_for self.now)
+            (asker_in self.now)) }
     {
         let kept = kept_in(
             self.book,
@@ -193,7 +202,8 @@ impl<'a> Choosing<'a> {
     /// Cases 5 to 13: what is asked for is one address of each family of some option.
     fn pooled(&self) -> Result<Choice, NoMemory>
         requires { IsEntered self.now }
-        ensures { IfOk result (λ c. c ≡ pooled (claims_in self.now) (offer_for self.now) (asker_in self.now)) }
+        ensures { IfOk result (λ c. c ≡ pooled (claims_in self.now) (offer_for self.now)
+            (asker_in self.now)) }
     {
         let asked = named(self.pools(), &self.service.pool_asked);
         if is_given(&self.service.pool_asked) && asked.is_none() {
@@ -212,7 +222,8 @@ impl<'a> Choosing<'a> {
     /// Cases 4 to 13: what is asked for can be read.
     fn fitting(&self) -> Result<Choice, NoMemory>
         requires { IsEntered self.now }
-        ensures { IfOk result (λ c. c ≡ fitting (claims_in self.now) (offer_for self.now) (asker_in self.now)) }
+        ensures { IfOk result (λ c. c ≡ fitting (claims_in self.now) (offer_for self.now)
+            (asker_in self.now)) }
     {
         let wanted = &self.service.wanted;
         if is_asked(wanted) && !fits_option(self.service, asked_in(wanted)) {
@@ -227,7 +238,8 @@ impl<'a> Choosing<'a> {
     fn choose(&self, class: Option<&Text>) -> Result<Choice, NoMemory>
         requires { IsEntered self.now }
         ensures { IfOk result
-            (λ c. c ≡ choose_for (claims_in self.now) (offer_for self.now) (option_copied class.entry) self.now.service.now (asker_in self.now)) }
+            (λ c. c ≡ choose_for (claims_in self.now) (offer_for self.now)
+            (option_copied class.entry) self.now.service.now (asker_in self.now)) }
     {
         if self.service.balancer && !self.service.is_handled(class) {
             return Ok(Choice::Foreign);
@@ -256,7 +268,8 @@ fn pools_at<'a>(
     pools: &'a [CompiledPool],
     places: &[usize],
 ) -> Result<Vec<&'a CompiledPool>, NoMemory>
-    ensures places { IfOk result (λ found. map (λ p. p.now) found.items ≡ filter_map (slice_get pools.now) places.now) }
+    ensures places { IfOk result (λ found. map (λ p. p.now) found.items
+        ≡ filter_map (slice_get pools.now) places.now) }
     ensures among { IfOk result (λ found. All (λ p. Contains pools.now p.now) found.items) }
 {
     let mut found = Vec::new(alloc);
@@ -276,7 +289,9 @@ fn eligible_pools<'a>(
     service: &Service,
     namespace: &Labels,
 ) -> Result<Vec<&'a CompiledPool>, NoMemory>
-    ensures eligible { IfOk result (λ found. map (λ p. p.now) found.items ≡ eligible service.now namespace.now config.now.pools) }
+    ensures eligible { IfOk result
+        (λ found. map (λ p. p.now) found.items
+        ≡ eligible service.now namespace.now config.now.pools) }
     ensures among { IfOk result (λ found. All (λ p. Contains config.now.pools p.now) found.items) }
 {
     let places = eligible(alloc, config, service, namespace)?;
@@ -294,7 +309,8 @@ pub(crate) fn choose(
 ) -> Result<Choice, NoMemory>
     requires { AreThose config.now.pools book.now.entries }
     ensures value { IfOk result (λ c. c
-        ≡ choose book.now.claims (offer_of config.now.pools service.now namespace.now) (option_copied class.entry) service.now) }
+        ≡ choose book.now.claims (offer_of config.now.pools service.now namespace.now)
+        (option_copied class.entry) service.now) }
     ensures terms { OnOk result (AreTerms (terms_of service.now)) }
 {
     let terms = MarkedTerms::of(alloc, service)?;

@@ -3,9 +3,12 @@ ghost use Rattle.std.specs.Prelude.{◌≡◌, ◌&&◌, ◌||◌, ◌+◌, ◌�
 ghost use Rattle.std.specs.Option.{option_copied};
 ghost use Rattle.std.specs.List.{list_all, list_any};
 ghost use Rattle.ip_ranges.specs.Values.{has_address};
-ghost use Rattle.alloc_book.specs.Asking.{alone_of, asked_in, is_asked, is_unreadable, is_given, asking, offering, options_of};
+ghost use Rattle.alloc_book.specs.Asking.{alone_of, asked_in, is_asked, is_unreadable, is_given};
+ghost use Rattle.alloc_book.specs.Asking.{asking, offering, options_of};
 ghost use Rattle.alloc_book.specs.Chosen.{named};
-ghost use Rattle.alloc_book.specs.Choose.{addresses_of, wanted_of, one_of_each, is_open, fits_option, all_usable, same_addresses, is_kept, is_home};
+ghost use Rattle.alloc_book.specs.Choose.{addresses_of, wanted_of, one_of_each, is_open};
+ghost use Rattle.alloc_book.specs.Choose.{fits_option, all_usable, same_addresses, is_kept};
+ghost use Rattle.alloc_book.specs.Choose.{is_home};
 ghost use Rattle.alloc_book.specs.Usable.{is_in};
 
 use crate::booking::Book;
@@ -104,14 +107,16 @@ pub(crate) fn alone_of(service: &Service) -> &[Family]
 
 /// Whether the addresses are exactly one of each family of one of the service's options.
 pub(crate) fn fits_option(service: &Service, addresses: &[Address]) -> bool
-    ensures { result ≡ list_any (λ families. one_of_each families addresses.now) (options_of service.now) }
+    ensures { result ≡ list_any (λ families. one_of_each families addresses.now)
+        (options_of service.now) }
 {
     one_of_each(service.families.as_slice(), addresses) || fit_alone(alone_of(service), addresses)
 }
 
 /// Whether the addresses are exactly one, of one of the families.
 fn fit_alone(families: &[Family], addresses: &[Address]) -> bool
-    ensures { result ≡ list_any (λ families. one_of_each families addresses.now) (map (λ family. family ∷ []) families.now) }
+    ensures { result ≡ list_any (λ families. one_of_each families addresses.now)
+        (map (λ family. family ∷ []) families.now) }
 {
     for family in families {
         if one_of_each(&[*family], addresses) {
@@ -121,9 +126,11 @@ fn fit_alone(families: &[Family], addresses: &[Address]) -> bool
     false
 }
 
-/// Whether the service may use the pool: it is served, and asks for this pool, where it asks for one.
+/// Whether the service may use the pool: it is served, and asks for this pool, where it asks for
+/// one.
 fn is_open(service: &Service, terms: &MarkedTerms, namespace: &Labels, pool: &CompiledPool) -> bool
-    ensures { result ≡ is_open (offering [] [] service.now namespace.now) (asking service.now terms.now) pool.now }
+    ensures { result ≡ is_open (offering [] [] service.now namespace.now)
+        (asking service.now terms.now) pool.now }
 {
     serves(pool, service, namespace)
         && (!is_given(&service.pool_asked) || pool.name == service.pool_asked)
@@ -137,7 +144,8 @@ pub(crate) fn all_usable(
     pool: &CompiledPool,
     addresses: &[Address],
 ) -> bool
-    ensures { result ≡ all_usable book.now.claims (asking service.now terms.now) pool.now addresses.now }
+    ensures { result ≡ all_usable book.now.claims
+        (asking service.now terms.now) pool.now addresses.now }
 {
     let terms = terms.terms();
     addresses.iter().all(|address| may_use(book, pool, &service.key, terms, address))
@@ -164,13 +172,15 @@ fn is_kept(
     namespace: &Labels,
     pool: &CompiledPool,
 ) -> bool
-    ensures { result ≡ is_kept book.now.claims (offering [] [] service.now namespace.now) (asking service.now terms.now) pool.now }
+    ensures { result ≡ is_kept book.now.claims (offering [] [] service.now namespace.now)
+        (asking service.now terms.now) pool.now }
 {
     is_usable(book, service, terms, namespace, pool)
         && is_as_asked(&service.wanted, service.holding.addresses.as_slice())
 }
 
-/// Whether the service may use the pool, its recorded addresses fit it, and all of them may be used.
+/// Whether the service may use the pool, its recorded addresses fit it, and all of them may be
+/// used.
 fn is_usable(
     book: &Book,
     service: &Service,
@@ -178,9 +188,11 @@ fn is_usable(
     namespace: &Labels,
     pool: &CompiledPool,
 ) -> bool
-    ensures { result ≡ (is_open (offering [] [] service.now namespace.now) (asking service.now terms.now) pool.now
+    ensures { result ≡ (is_open (offering [] [] service.now namespace.now)
+        (asking service.now terms.now) pool.now
         && fits_option (asking service.now terms.now) service.now.holding.addresses
-        && all_usable book.now.claims (asking service.now terms.now) pool.now service.now.holding.addresses) }
+        && all_usable book.now.claims (asking service.now terms.now) pool.now
+        service.now.holding.addresses) }
 {
     is_fitting(service, terms, namespace, pool)
         && all_usable(
@@ -199,7 +211,8 @@ fn is_fitting(
     namespace: &Labels,
     pool: &CompiledPool,
 ) -> bool
-    ensures { result ≡ (is_open (offering [] [] service.now namespace.now) (asking service.now terms.now) pool.now
+    ensures { result ≡ (is_open (offering [] [] service.now namespace.now)
+        (asking service.now terms.now) pool.now
         && fits_option (asking service.now terms.now) service.now.holding.addresses) }
 {
     is_open(service, terms, namespace, pool)
@@ -208,14 +221,16 @@ fn is_fitting(
 
 /// Whether these are the addresses asked for, where some are.
 fn is_as_asked(wanted: &Wanted, addresses: &[Address]) -> bool
-    ensures { result ≡ (not (is_asked wanted.now) || same_addresses addresses.now (asked_in wanted.now)) }
+    ensures { result ≡ (not (is_asked wanted.now)
+        || same_addresses addresses.now (asked_in wanted.now)) }
 {
     !is_asked(wanted) || same_addresses(addresses, asked_in(wanted))
 }
 
 /// Whether the addresses asked for lie in the pool, which the service may use.
 fn is_home(service: &Service, terms: &MarkedTerms, namespace: &Labels, pool: &CompiledPool) -> bool
-    ensures { result ≡ is_home (offering [] [] service.now namespace.now) (asking service.now terms.now) pool.now }
+    ensures { result ≡ is_home (offering [] [] service.now namespace.now)
+        (asking service.now terms.now) pool.now }
 {
     is_open(service, terms, namespace, pool) && all_in(pool, asked_in(&service.wanted))
 }
@@ -226,7 +241,8 @@ fn all_in(pool: &CompiledPool, addresses: &[Address]) -> bool
     addresses.iter().all(|address| is_in(pool, address))
 }
 
-/// The first pool in which the recorded addresses may stay. Where there are some, it is the one that has the first of them.
+/// The first pool in which the recorded addresses may stay. Where there are some, it is the one
+/// that has the first of them.
 pub(crate) fn kept_in<'a>(
     book: &Book,
     config: &'a Config,
@@ -234,7 +250,9 @@ pub(crate) fn kept_in<'a>(
     terms: &MarkedTerms,
     namespace: &Labels,
 ) -> Option<&'a CompiledPool>
-    ensures { option_copied result ≡ find (is_kept book.now.claims (offering [] [] service.now namespace.now) (asking service.now terms.now)) config.now.pools }
+    ensures { option_copied result
+        ≡ find (is_kept book.now.claims (offering [] [] service.now namespace.now)
+        (asking service.now terms.now)) config.now.pools }
 {
     let Some(address) = service.holding.addresses.as_slice().first() else {
         return first_kept(book, config.pools.as_slice(), service, terms, namespace);
@@ -253,7 +271,9 @@ fn first_kept<'a>(
     terms: &MarkedTerms,
     namespace: &Labels,
 ) -> Option<&'a CompiledPool>
-    ensures { option_copied result ≡ find (is_kept book.now.claims (offering [] [] service.now namespace.now) (asking service.now terms.now)) pools.now }
+    ensures { option_copied result
+        ≡ find (is_kept book.now.claims (offering [] [] service.now namespace.now)
+        (asking service.now terms.now)) pools.now }
 {
     for pool in pools {
         if is_kept(book, service, terms, namespace, pool) {
@@ -263,14 +283,17 @@ fn first_kept<'a>(
     None
 }
 
-/// The first pool in which the addresses asked for lie. Where there are some, it is the one that has the first of them.
+/// The first pool in which the addresses asked for lie. Where there are some, it is the one that
+/// has the first of them.
 pub(crate) fn home_of<'a>(
     config: &'a Config,
     service: &Service,
     terms: &MarkedTerms,
     namespace: &Labels,
 ) -> Option<&'a CompiledPool>
-    ensures { option_copied result ≡ find (is_home (offering [] [] service.now namespace.now) (asking service.now terms.now)) config.now.pools }
+    ensures { option_copied result
+        ≡ find (is_home (offering [] [] service.now namespace.now) (asking service.now terms.now))
+        config.now.pools }
 {
     let Some(address) = asked_in(&service.wanted).first() else {
         return first_home(config.pools.as_slice(), service, terms, namespace);
@@ -288,7 +311,9 @@ fn first_home<'a>(
     terms: &MarkedTerms,
     namespace: &Labels,
 ) -> Option<&'a CompiledPool>
-    ensures { option_copied result ≡ find (is_home (offering [] [] service.now namespace.now) (asking service.now terms.now)) pools.now }
+    ensures { option_copied result
+        ≡ find (is_home (offering [] [] service.now namespace.now) (asking service.now terms.now))
+        pools.now }
 {
     for pool in pools {
         if is_home(service, terms, namespace, pool) {

@@ -1,18 +1,22 @@
 //! The addresses that claims leave, and the least of them.
 ghost use Rattle.std.specs.Prelude.{ℕ, Some, None, length, slice_get};
-ghost use Rattle.std.specs.Prelude.{◌≡◌, ◌≤◌, ◌<◌, ◌^◌, ◌↔◌, ◌&&◌, ◌∷◌, [], nat_le, IsTrue, IfOk, IfSome, IfNone, map, ◌+◌, ◌-◌};
+ghost use Rattle.std.specs.Prelude.{◌≡◌, ◌≤◌, ◌<◌, ◌^◌, ◌↔◌, ◌&&◌, ◌∷◌, [], nat_le, IsTrue, IfOk};
+ghost use Rattle.std.specs.Prelude.{IfSome, IfNone, map, ◌+◌, ◌-◌};
 ghost use Rattle.std.specs.Option.{option_copied, option_map};
 ghost use Rattle.std.specs.List.{All, Contains};
 ghost use Rattle.std.specs.Map.{values_of};
-ghost use Rattle.ip_ranges.specs.Values.{AddressValue, SpanValue, has_address, is_buggy, same_family, width_of};
+ghost use Rattle.ip_ranges.specs.Values.{AddressValue, SpanValue, has_address, is_buggy};
+ghost use Rattle.ip_ranges.specs.Values.{same_family, width_of};
 ghost use Rattle.sharing_terms.specs.declared.terms.Terms.{Terms};
 ghost use Rattle.sharing_terms.specs.Marks.{mark_of};
 ghost use Rattle.alloc_book.specs.Asking.{asking};
 ghost use Rattle.claim_index.specs.SharingGroups.{sharing_group_of};
 ghost use Rattle.alloc_book.specs.Candidates.{is_own, is_offered, is_free, Covers};
 ghost use Rattle.number_sets.specs.Least.{IsLeastIn, NonePasses};
-ghost use Rattle.alloc_book.specs.Searching.{AreAmong, CanShareNone, KnowsHolder, KnowsPlace, StandAt, claims_for, usable_by};
-ghost use Rattle.alloc_book.specs.Search.{usable, numbered, least_between, least_in, least_usable, least_each, first_pool, first_of, first_option};
+ghost use Rattle.alloc_book.specs.Searching.{AreAmong, CanShareNone, KnowsHolder, KnowsPlace};
+ghost use Rattle.alloc_book.specs.Searching.{StandAt, claims_for, usable_by};
+ghost use Rattle.alloc_book.specs.Search.{usable, numbered, least_between, least_in, least_usable};
+ghost use Rattle.alloc_book.specs.Search.{least_each, first_pool, first_of, first_option};
 ghost use Rattle.address_holders.specs.Holders.{address_of};
 ghost use Rattle.claim_index.specs.Claims.{holders};
 ghost use Rattle.alloc_book.specs.Least.{IsLeast};
@@ -37,8 +41,9 @@ pub(crate) fn is_in(pool: &CompiledPool, address: &Address) -> bool
         .any(|span| span.contains(address))
 }
 
-/// Whether a service of this key and these terms may use the address: it lies in the pool, isn't one that the pool avoids,
-/// and each claim of another key leaves it or shares it. It takes no memory.
+/// Whether a service of this key and these terms may use the address: it lies in the pool, isn't
+/// one that the pool avoids, and each claim of another key leaves it or shares it. It takes no
+/// memory.
 pub fn usable(
     book: &Book,
     pool: &CompiledPool,
@@ -47,7 +52,8 @@ pub fn usable(
     address: &Address,
 ) -> bool
     ensures value { result ≡ usable book.now.claims key.now terms.now pool.now address.now }
-    ensures meaning { IsTrue result ↔ IsUsable (holders book.now.claims) key.now terms.now pool.now address.now }
+    ensures meaning { IsTrue result
+        ↔ IsUsable (holders book.now.claims) key.now terms.now pool.now address.now }
 {
     may_use(book, pool, key, terms, address)
 }
@@ -72,7 +78,8 @@ fn is_avoided(pool: &CompiledPool, address: &Address) -> bool
     pool.avoid_buggy && is_buggy(address)
 }
 
-/// The least number from low to high of an address that no claim has, and that the pool doesn't avoid.
+/// The least number from low to high of an address that no claim has, and that the pool doesn't
+/// avoid.
 fn first_free(
     index: &ClaimIndex,
     pool: &CompiledPool,
@@ -80,8 +87,10 @@ fn first_free(
     low: u128,
     high: u128,
 ) -> Option<u128>
-    ensures some { IfSome result (λ n. IsLeastIn (numbered (is_free (values_of index.now.items) pool.now) family) low high n) }
-    ensures none { IfNone result (NonePasses (numbered (is_free (values_of index.now.items) pool.now) family) low high) }
+    ensures some { IfSome result (λ n. IsLeastIn
+        (numbered (is_free (values_of index.now.items) pool.now) family) low high n) }
+    ensures none { IfNone result (NonePasses
+        (numbered (is_free (values_of index.now.items) pool.now) family) low high) }
 {
     index.first_unclaimed(pool.avoid_buggy, family, low, high)
 }
@@ -101,14 +110,16 @@ struct AddressSearch<'a> {
     family: Family,
     /// Whether the key has a claim.
     is_holder: bool,
-    /// From which place on the pool's entries stand among those of which the book keeps whether they are full, where it is known.
+    /// From which place on the pool's entries stand among those of which the book keeps whether
+    /// they are full, where it is known.
     first: Option<usize>,
 }
 
 impl<'a> AddressSearch<'a> {
     /// Whether the address is of the family, has a number from low to high, and may be used.
     fn usable_number(&self, low: u128, high: u128, address: &Address) -> bool
-        ensures { result ≡ (same_family address.now.family self.now.family && nat_le low address.now.number && nat_le address.now.number high
+        ensures { result ≡ (same_family address.now.family self.now.family
+            && nat_le low address.now.number && nat_le address.now.number high
             && usable_by self.now address.now) }
     {
         address.family == self.family
@@ -119,7 +130,8 @@ impl<'a> AddressSearch<'a> {
 
     /// The least number from low to high of one of the addresses that may be used.
     fn least_among(&self, low: u128, high: u128, addresses: &[Address]) -> Option<u128>
-        ensures { Covers (numbered (has_address addresses.now) self.now.family) (numbered (usable_by self.now) self.now.family) low high result }
+        ensures { Covers (numbered (has_address addresses.now) self.now.family)
+            (numbered (usable_by self.now) self.now.family) low high result }
     {
         let mut least = None;
         for address in addresses {
@@ -134,7 +146,8 @@ impl<'a> AddressSearch<'a> {
     /// The least number from low to high of an address that the key has already and may use.
     fn least_own(&self, low: u128, high: u128) -> Option<u128>
         requires { KnowsHolder self.now }
-        ensures { Covers (numbered (is_own self.now.key.now (claims_for self.now)) self.now.family) (numbered (usable_by self.now) self.now.family) low high
+        ensures { Covers (numbered (is_own self.now.key.now (claims_for self.now)) self.now.family)
+            (numbered (usable_by self.now) self.now.family) low high
             result }
     {
         if !self.is_holder {
@@ -153,12 +166,14 @@ impl<'a> AddressSearch<'a> {
         least
     }
 
-    /// A number from low to high of an address that may be used, before which there is none that may be used, that a claim of the terms'
-    /// group has, and that the key doesn't have. Addresses on which a claim of the group has a port of the terms are passed over by halves,
-    /// port by port; what is left is tested one by one.
+    /// A number from low to high of an address that may be used, before which there is none that
+    /// may be used, that a claim of the terms' group has, and that the key doesn't have. Addresses
+    /// on which a claim of the group has a port of the terms are ignored by binary search, port by
+    /// port; what is left is tested one by one.
     fn least_shared(&self, low: u128, high: u128) -> Option<u128>
         requires { high < 2 ^ width_of self.now.family }
-        ensures { Covers (numbered (is_offered self.now.key.now (sharing_group_of self.now.terms.now) (claims_for self.now)) self.now.family)
+        ensures { Covers (numbered (is_offered self.now.key.now
+            (sharing_group_of self.now.terms.now) (claims_for self.now)) self.now.family)
             (numbered (usable_by self.now) self.now.family) low high result }
     {
         if self.terms.terms().key.as_str().is_empty() {
@@ -180,14 +195,16 @@ impl<'a> AddressSearch<'a> {
         None
     }
 
-    /// The least address of the range, which is one of the pool's, that may be used: the least of those that no claim has, of those that
-    /// the key has already, and of those that a claim of its group has.
+    /// The least address of the range, which is one of the pool's, that may be used: the least of
+    /// those that no claim has, of those that the key has already, and of those that a claim of its
+    /// group has.
     fn least_number(&self, span: &Span) -> Option<Address>
         requires family { span.now.family ≡ self.now.family }
         requires listed { Contains self.now.pool.now.spans span.now }
         requires holder { KnowsHolder self.now }
         ensures { result ≡ option_map (address_of self.now.family)
-            (least_between (numbered (usable_by self.now) self.now.family) span.now.low (span.now.high + 1 - span.now.low)) }
+            (least_between (numbered (usable_by self.now) self.now.family) span.now.low
+            (span.now.high + 1 - span.now.low)) }
     {
         let family = self.family;
         let free = first_free(self.book.index(), self.pool, family, span.low, span.high);
@@ -199,7 +216,8 @@ impl<'a> AddressSearch<'a> {
         Some(Address { family, number })
     }
 
-    /// Whether the service can have free addresses alone: its key has no claim, and its terms have no sharing key.
+    /// Whether the service can have free addresses alone: its key has no claim, and its terms have
+    /// no sharing key.
     fn is_alone(&self) -> bool
         requires { KnowsHolder self.now }
         ensures { IsTrue result → CanShareNone self.now }
@@ -207,12 +225,14 @@ impl<'a> AddressSearch<'a> {
         !self.is_holder && self.terms.terms().key.as_str().is_empty()
     }
 
-    /// From this entry of the pool on the first one that may have an address for the service: those in front of it have none.
+    /// From this entry of the pool on the first one that may have an address for the service: those
+    /// in front of it have none.
     fn next_entry(&self, from: usize) -> usize
         requires holder { KnowsHolder self.now }
         requires place { KnowsPlace self.now }
         ensures within { from ≤ result }
-        ensures passed { (k : ℕ) (span : SpanValue) → from ≤ k → k < result → slice_get self.now.pool.now.spans k ≡ Some span
+        ensures passed { (k : ℕ) (span : SpanValue) → from ≤ k → k < result
+            → slice_get self.now.pool.now.spans k ≡ Some span
             → least_in (usable_by self.now) self.now.family span ≡ None }
     {
         let Some(first) = self.first else {
@@ -240,12 +260,14 @@ impl<'a> AddressSearch<'a> {
         self.least_number(span)
     }
 
-    /// The first address of the family that may be used, entry by entry. Where the service can have free addresses alone, entries that are
-    /// known to be full are passed over by runs.
+    /// The first address of the family that may be used, entry by entry. Where the service can have
+    /// free addresses alone, entries that are known to be full are ignored by runs.
     fn least_listed(&self) -> Option<Address>
         requires holder { KnowsHolder self.now }
         requires place { KnowsPlace self.now }
-        ensures { result ≡ least_usable (claims_for self.now) self.now.key.now self.now.terms.now self.now.pool.now self.now.family }
+        ensures { result ≡ least_usable
+            (claims_for self.now) self.now.key.now self.now.terms.now self.now.pool.now
+            self.now.family }
     {
         let spans = self.pool.spans.as_slice();
         let mut at = self.next_entry(0);
@@ -260,7 +282,8 @@ impl<'a> AddressSearch<'a> {
     }
 }
 
-/// From which place on the pool's entries stand among those of which the book keeps whether they are full; `None` where it is kept of none.
+/// From which place on the pool's entries stand among those of which the book keeps whether they
+/// are full; `None` where it is kept of none.
 fn first_place(book: &Book, pool: &CompiledPool) -> Option<usize>
     requires { AreAmong book.now.entries pool.now }
     ensures { IfSome result (StandAt book.now.entries pool.now) }
@@ -284,8 +307,8 @@ fn span_at(spans: &[Span], at: usize) -> Option<&Span>
     spans.get(at)
 }
 
-/// The first address of the family that may be used: entries as listed, addresses of an entry ascending. It takes no
-/// memory.
+/// The first address of the family that may be used: entries as listed, addresses of an entry
+/// ascending. It takes no memory.
 pub fn least_usable(
     book: &Book,
     pool: &CompiledPool,
@@ -294,13 +317,16 @@ pub fn least_usable(
     family: Family,
 ) -> Option<Address>
     ensures value { result ≡ least_usable book.now.claims key.now terms.now pool.now family }
-    ensures least { IfSome result (IsLeast (holders book.now.claims) key.now terms.now pool.now family) }
-    ensures none { IfNone result ((a : AddressValue) → ¬ (IsUsableOf (holders book.now.claims) key.now terms.now pool.now family a)) }
+    ensures least { IfSome result (IsLeast
+        (holders book.now.claims) key.now terms.now pool.now family) }
+    ensures none { IfNone result ((a : AddressValue)
+        → ¬ (IsUsableOf (holders book.now.claims) key.now terms.now pool.now family a)) }
 {
     least_past_full(book, pool, key, terms, family, None)
 }
 
-/// The same, where the pool's entries stand from this place on among those of which the book keeps whether they are full.
+/// The same, where the pool's entries stand from this place on among those of which the book keeps
+/// whether they are full.
 fn least_past_full(
     book: &Book,
     pool: &CompiledPool,
@@ -334,7 +360,8 @@ fn least_each(
     terms: &MarkedTerms,
 ) -> Result<Option<AddressList>, NoMemory>
     requires { AreAmong book.now.entries pool.now }
-    ensures { IfOk result (λ found. found ≡ least_each book.now.claims service.now.key terms.now pool.now families.now) }
+    ensures { IfOk result (λ found. found
+        ≡ least_each book.now.claims service.now.key terms.now pool.now families.now) }
 {
     let first = first_place(book, pool);
     let mut addresses = AddressList::new(alloc);
@@ -374,7 +401,9 @@ fn first_pool(
     terms: &MarkedTerms,
 ) -> Result<Option<Record>, NoMemory>
     requires { All (λ p. AreAmong book.now.entries p.now) pools.now }
-    ensures { IfOk result (λ found. found ≡ first_pool book.now.claims (asking service.now terms.now) families.now (map (λ p. p.now) pools.now)) }
+    ensures { IfOk result (λ found. found
+        ≡ first_pool book.now.claims (asking service.now terms.now) families.now
+        (map (λ p. p.now) pools.now)) }
 {
     for pool in pools {
         if let Some(addresses) = least_each(alloc, book, pool, families, service, terms)? {
@@ -395,7 +424,8 @@ fn first_alone(
 ) -> Result<Option<Record>, NoMemory>
     requires { All (λ p. AreAmong book.now.entries p.now) pools.now }
     ensures { IfOk result (λ found. found
-        ≡ first_of book.now.claims (asking service.now terms.now) (map (λ p. p.now) pools.now) (map (λ family. family ∷ []) families.now)) }
+        ≡ first_of book.now.claims (asking service.now terms.now) (map (λ p. p.now) pools.now)
+        (map (λ family. family ∷ []) families.now)) }
 {
     for family in families {
         let found = first_pool(alloc, book, pools, &[*family], service, terms)?;
@@ -406,7 +436,8 @@ fn first_alone(
     Ok(None)
 }
 
-/// What the first pool gives that has an address of each family, and where none has, of one family that will do alone.
+/// What the first pool gives that has an address of each family, and where none has, of one family
+/// that will do alone.
 pub(crate) fn first_option(
     alloc: Global,
     book: &Book,
@@ -415,7 +446,9 @@ pub(crate) fn first_option(
     terms: &MarkedTerms,
 ) -> Result<Option<Record>, NoMemory>
     requires { All (λ p. AreAmong book.now.entries p.now) pools.now }
-    ensures { IfOk result (λ found. found ≡ first_option book.now.claims (asking service.now terms.now) (map (λ p. p.now) pools.now)) }
+    ensures { IfOk result (λ found. found
+        ≡ first_option book.now.claims (asking service.now terms.now)
+        (map (λ p. p.now) pools.now)) }
 {
     let families = service.families.as_slice();
     let found = first_pool(alloc, book, pools, families, service, terms)?;

@@ -4,7 +4,8 @@ ghost use Rattle.std.specs.List.Sorted.{IsStrictlySortedBy};
 ghost use Rattle.ip_ranges.specs.Values.{AddressValue, has_address, same_address};
 ghost use Rattle.l2_elect.specs.Kept.{AreKeptFor, WereKept};
 ghost use Rattle.announced_set.specs.Announced.{address_cmp};
-ghost use Rattle.announced_set.specs.Changes.{AreComeSince, AreWithdrawn, difference, kept_among, is_kept_announcer};
+ghost use Rattle.announced_set.specs.Changes.{AreComeSince, AreWithdrawn, difference, kept_among};
+ghost use Rattle.announced_set.specs.Changes.{is_kept_announcer};
 
 use ip_ranges::{Address, AddressList};
 use kube_labels::Text;
@@ -29,8 +30,8 @@ impl Drop for AddressChanges {
     }
 }
 
-/// Makes the announcers of the view before those of the view, and tells what that changes of what the
-/// node announces. After an error nothing is known of the announcers.
+/// Makes the announcers of the view before those of the view, and tells what that changes of what
+/// the node announces. After an error nothing is known of the announcers.
 pub fn renew_announcers(
     alloc: Global,
     announcers: &mut Announcers,
@@ -40,8 +41,10 @@ pub fn renew_announcers(
 ) -> Result<AddressChanges, NoMemory>
     requires { WereKept change.now announcers.old view.now }
     ensures announcers { OnOk result (AreKeptFor announcers.new view.now) }
-    ensures withdrawn { IfOk result (λ changes. AreWithdrawn announcers.old view.now node.now changes.withdrawn.keys) }
-    ensures announced { IfOk result (λ changes. AreComeSince announcers.old view.now node.now changes.announced.keys) }
+    ensures withdrawn { IfOk result
+        (λ changes. AreWithdrawn announcers.old view.now node.now changes.withdrawn.keys) }
+    ensures announced { IfOk result
+        (λ changes. AreComeSince announcers.old view.now node.now changes.announced.keys) }
 {
     let moves = announcers.moves(view, change)?;
     let addresses = addresses_of(alloc, moves.as_slice())?;
@@ -66,8 +69,10 @@ fn changes_between(
     before: &BTreeSet<Address>,
     after: &BTreeSet<Address>,
 ) -> Result<AddressChanges, NoMemory>
-    ensures withdrawn { IfOk result (λ changes. changes.withdrawn.keys ≡ difference before.now.keys after.now.keys) }
-    ensures announced { IfOk result (λ changes. changes.announced.keys ≡ difference after.now.keys before.now.keys) }
+    ensures withdrawn { IfOk result
+        (λ changes. changes.withdrawn.keys ≡ difference before.now.keys after.now.keys) }
+    ensures announced { IfOk result
+        (λ changes. changes.announced.keys ≡ difference after.now.keys before.now.keys) }
 {
     Ok(AddressChanges {
         withdrawn: difference(alloc, before, after)?,
@@ -132,7 +137,8 @@ fn difference(
 
 fn insert(addresses: &mut BTreeSet<Address>, address: &Address) -> Result<(), NoMemory>
     ensures { OnOk result ((a : AddressValue)
-        → has_address addresses.new.keys a ≡ (if same_address a address.now then true else has_address addresses.old.keys a)) }
+        → has_address addresses.new.keys a
+        ≡ (if same_address a address.now then true else has_address addresses.old.keys a)) }
 {
     addresses.insert(*address)?;
     Ok(())

@@ -1,5 +1,6 @@
-//! Routes of IPv4 and IPv6 with large communities, and the UPDATE messages that tell them (RFC 4271, RFC 4760, RFC 8092): what the crates
-//! below make, under names of its own, and the law that joins them.
+//! Routes of IPv4 and IPv6 with large communities, and the UPDATE messages that tell them (RFC
+//! 4271, RFC 4760, RFC 8092): what the crates below make, under names of its own, and the law that
+//! joins them.
 #![tactic(auto)]
 
 mod laws;

@@ -40,7 +40,7 @@ front-at bytes front rest size is split = ap (λ k. take k bytes) is ∙ ap (λ 
 pub rest-at : (bytes front rest : List ℕ) (size : ℕ) → size ≡ length front → bytes ≡ front ++ rest → drop size bytes ≡ rest
 rest-at bytes front rest size is split = ap (λ k. drop k bytes) is ∙ ap (λ s. drop (length front) s) split ∙ drop_at front rest (length front) refl
 
--- ---- behind no withdrawn routes
+-- ---- after no withdrawn routes
 fits-attributes : (a n : List ℕ) → length (message_of [] a n) ≤ 4096 → length a < 2 ^ 16
 fits-attributes a n short = omega (arith, short, length-message [] a n)
 
@@ -56,7 +56,7 @@ behind-read a n short =
 pub first-type : (a n : List ℕ) → slice_index (message_of [] a n) 24 ≡ slice_index (a ++ n) 1
 first-type a n = refl
 
--- octets behind the attributes tell the family
+-- octets after the attributes tell the family
 pub family-v4 : (a n : List ℕ) → length (message_of [] a n) ≤ 4096 → 0 < length n → announced_family (message_of [] a n) ≡ V4
 family-v4 a n short some =
     let size = attributes-size a n (fits-attributes a n short) in
@@ -72,7 +72,7 @@ family-v6 a short =
     ap (λ b. cond b V6 V4) none
 
 -- ---- the messages' parts
--- what stands behind the attributes of a message that announces
+-- what stands after the attributes of a message that announces
 abbrev pub behind_of : Family → List ℕ → List ℕ
 behind_of V4 prefixes = prefixes
 behind_of V6 prefixes = []

@@ -6,7 +6,7 @@ use Rattle.ip_ranges.specs.declared.family.Family.{Family}
 use Rattle.ip_ranges.specs.Values.{PrefixValue, width_of}
 use Rattle.bgp_reading.specs.Places.{prefix_in, prefixes_behind, prefixes_in}
 
--- the octets of a prefix that has begun are passed over
+-- the octets of a prefix that has begun are ignored
 pub prefixes_behind-drop : (family : Family) (left : ℕ) (bytes : List ℕ) → prefixes_behind family left bytes ≡ prefixes_in family (drop left bytes)
 prefixes_behind-drop family zero bytes = refl
 prefixes_behind-drop family (suc left) [] = refl

@@ -24,7 +24,7 @@ first_message bytes = take (short_at 16 bytes) bytes
 abbrev pub behind_first : List ℕ → List ℕ
 behind_first bytes = drop (short_at 16 bytes) bytes
 
--- the table after at most so many messages that stand one behind the other; `None` where the octets aren't that
+-- the table after at most so many messages that stand one after the other; `None` where the octets aren't that
 abbrev pub received_within : ℕ → (PrefixValue → Option Terms) → List ℕ → Option (PrefixValue → Option Terms)
 received_within most table [] = Some table
 received_within zero table (octet ∷ rest) = None

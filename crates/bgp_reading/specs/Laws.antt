@@ -29,7 +29,7 @@ AreOfPeer peering routes = AllByRecursion (λ route. IsTold peering route.1) rou
 abbrev pub AreTyped : Peering → List (PrefixValue × Terms) → Type 0
 AreTyped peering routes = AllByRecursion (λ route. AreValues peering route.1) routes
 
--- the messages, one behind the other
+-- the messages, one after the other
 abbrev pub joined : List (List ℕ) → List ℕ
 joined messages = flat_map (λ message. message) messages
 

@@ -97,7 +97,7 @@ value_at kind rest = if is_of_type kind rest then take (value_size rest) (behind
 unfoldable pub behind_at : ℕ → List ℕ → List ℕ
 behind_at kind rest = if is_of_type kind rest then drop (value_size rest) (behind_size rest) else rest
 
--- AS_PATH, the second one, is empty inside one AS; else the own number stands behind its segment's type and count.
+-- AS_PATH, the second one, is empty inside one AS; else the own number stands after its segment's type and count.
 abbrev pub own_in : List ℕ → Option ℕ
 own_in attributes = if slice_index attributes 6 == 0 then None else Some (number_at 9 attributes)
 
@@ -131,7 +131,7 @@ optional_in family attributes = behind_preference (own_in attributes) (behind_ho
 abbrev pub communities_in : List ℕ → List ℕ
 communities_in rest = ascending_in (value_at 8 rest)
 
--- the value of MP_REACH_NLRI (RFC 4760, section 3): family, next hop behind its length, a reserved octet, prefixes
+-- the value of MP_REACH_NLRI (RFC 4760, section 3): family, next hop after its length, a reserved octet, prefixes
 abbrev pub reach_in : List ℕ → List ℕ
 reach_in rest = value_at 14 (behind_at 8 rest)
 

@@ -16,16 +16,16 @@ abbrev pub comes_behind : Option PrefixValue → PrefixValue → Bool
 comes_behind None q = true
 comes_behind (Some p) q = before p q
 
--- each behind the one before
+-- each after the one before
 abbrev pub follow : Option PrefixValue → List PrefixValue → Bool
 follow last [] = true
 follow last (q ∷ rest) = comes_behind last q && follow (Some q) rest
 
--- at least one prefix, and each behind the one before
+-- at least one prefix, and each after the one before
 abbrev pub are_prefixes : List PrefixValue → Bool
 are_prefixes prefixes = nat_le 1 (length prefixes) && follow None prefixes
 
--- behind no withdrawn routes the attributes have their length at 21
+-- after no withdrawn routes the attributes have their length at 21
 abbrev pub attributes_in : List ℕ → List ℕ
 attributes_in bytes = take (short_at 21 bytes) (drop 23 bytes)
 
@@ -33,7 +33,7 @@ attributes_in bytes = take (short_at 21 bytes) (drop 23 bytes)
 abbrev pub withdrawn_parts : List PrefixValue → UpdateParts
 withdrawn_parts prefixes = record { withdrawn = prefixes; communities = []; large = []; preference = None; announced = [] }
 
--- the withdrawn routes are behind their length in two octets, at 19, or behind the family in MP_UNREACH_NLRI (RFC 4760, section 4)
+-- the withdrawn routes are after their length in two octets, at 19, or after the family in MP_UNREACH_NLRI (RFC 4760, section 4)
 abbrev pub withdrawn_octets : Family → List ℕ → List ℕ
 withdrawn_octets V4 bytes = take (short_at 19 bytes) (drop 21 bytes)
 withdrawn_octets V6 bytes = drop 3 (value_at 15 (attributes_in bytes))
@@ -53,7 +53,7 @@ abbrev pub announced_parts : Terms → List PrefixValue → UpdateParts
 announced_parts terms prefixes =
     record { withdrawn = []; communities = terms.communities; large = terms.large; preference = terms.preference; announced = prefixes }
 
--- the announced prefixes are behind the attributes, or behind the next hop and the reserved octet in MP_REACH_NLRI
+-- the announced prefixes are after the attributes, or after the next hop and the reserved octet in MP_REACH_NLRI
 abbrev pub announced_octets : Family → List ℕ → List ℕ
 announced_octets V4 bytes = drop (short_at 21 bytes) (drop 23 bytes)
 announced_octets V6 bytes = drop 21 (reach_in (optional_in V6 (attributes_in bytes)))
@@ -73,7 +73,7 @@ announcement_of family bytes =
     announcement_by family bytes (sender_in family (attributes_in bytes)) (terms_in family (attributes_in bytes)) (announced_in family bytes)
 
 -- ---- either, of either family
--- announced prefixes of IPv4 are behind the attributes, and behind those of IPv6 there is nothing
+-- announced prefixes of IPv4 are after the attributes, and after those of IPv6 there is nothing
 abbrev pub announced_family : List ℕ → Family
 announced_family bytes = if nat_le (length bytes) (23 + short_at 21 bytes) then V6 else V4
 

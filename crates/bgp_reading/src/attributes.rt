@@ -1,9 +1,12 @@
 //! Path attributes, read.
 ghost use Rattle.std.specs.Prelude.{◌≡◌, ◌*◌, ◌≤◌, IfOk, drop, length};
 ghost use Rattle.ip_ranges.specs.declared.family.Family.TheVariants.{V6};
-ghost use Rattle.bgp_reading.specs.Places.{ascending_in, behind_at, behind_hop, behind_path, behind_preference, behind_size};
-ghost use Rattle.bgp_reading.specs.Places.{communities_in, is_extended, large_in, larges_in, next_hop_in, next_hop_v6_in, number_at};
-ghost use Rattle.bgp_reading.specs.Places.{optional_in, own_in, preference_in, reach_in, sender_in, terms_in, value_at, value_size};
+ghost use Rattle.bgp_reading.specs.Places.{ascending_in, behind_at, behind_hop, behind_path};
+ghost use Rattle.bgp_reading.specs.Places.{behind_preference, behind_size};
+ghost use Rattle.bgp_reading.specs.Places.{communities_in, is_extended, large_in, larges_in};
+ghost use Rattle.bgp_reading.specs.Places.{next_hop_in, next_hop_v6_in, number_at};
+ghost use Rattle.bgp_reading.specs.Places.{optional_in, own_in, preference_in, reach_in, sender_in};
+ghost use Rattle.bgp_reading.specs.Places.{terms_in, value_at, value_size};
 
 use crate::octets::{behind, front, number_at, octet, short_at, wide_in};
 use bgp_updates::{Peering, Terms};
@@ -34,7 +37,8 @@ pub(crate) fn read_terms(
     attributes: &[u8],
 ) -> Result<Terms, NoMemory>
     ensures value { IfOk result (λ terms. terms ≡ terms_in family attributes.now) }
-    ensures communities { IfOk result (λ terms. 4 * length terms.communities ≤ length attributes.now) }
+    ensures communities { IfOk result
+        (λ terms. 4 * length terms.communities ≤ length attributes.now) }
     ensures large { IfOk result (λ terms. 12 * length terms.large ≤ length attributes.now) }
 {
     let rest = optional_in(family, attributes);
@@ -130,7 +134,8 @@ pub(crate) fn reached_in(attributes: &[u8]) -> &[u8]
     behind(reach_in(optional_in(Family::V6, attributes)), 21)
 }
 
-/// The value of the attribute of this type with which the octets begin, and no octets where they begin with another one.
+/// The value of the attribute of this type with which the octets begin, and no octets where they
+/// begin with another one.
 #[tactic(auto, unfolding(crate::specs::Places::value_at))]
 pub(crate) fn value_at(kind: u8, rest: &[u8]) -> &[u8]
     ensures { result.now ≡ value_at kind rest.now }

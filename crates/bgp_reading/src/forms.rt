@@ -1,6 +1,7 @@
 //! Messages of one form, read.
 ghost use Rattle.std.specs.Prelude.{◌≡◌, ◌≤◌, IfOk, length};
-ghost use Rattle.bgp_reading.specs.Reading.{announced_octets, announcement_of, attributes_in, withdrawal_of, withdrawn_octets};
+ghost use Rattle.bgp_reading.specs.Reading.{announced_octets, announcement_of, attributes_in};
+ghost use Rattle.bgp_reading.specs.Reading.{withdrawal_of, withdrawn_octets};
 
 use crate::attributes::{reached_in, read_terms, sender_in, value_at};
 use crate::octets::{behind, front, short_at};
@@ -83,7 +84,7 @@ pub(crate) fn read_announcement(
     }))
 }
 
-/// The octets of announced prefixes: those behind the attributes, or those in MP_REACH_NLRI.
+/// The octets of announced prefixes: those after the attributes, or those in MP_REACH_NLRI.
 fn announced_octets(family: Family, bytes: &[u8]) -> &[u8]
     ensures { result.now ≡ announced_octets family bytes.now }
 {

@@ -5,7 +5,8 @@ use mlb_base::NoMemory;
 use pool_config::CommunityNumbers;
 use thiserror::Error;
 
-/// What an UPDATE message says: withdrawn routes alone, or announced ones alone, of IPv4 or of IPv6.
+/// What an UPDATE message says: withdrawn routes alone, or announced ones alone, of IPv4 or of
+/// IPv6.
 #[derive(Drop)]
 pub struct UpdateParts {
     /// The prefixes without a route from now on, ascending by number and then by length.

@@ -11,7 +11,7 @@ use ip_ranges::{Address, Family, Prefix, PrefixList, mask};
 use mlb_base::{NoMemory, Sequence};
 use std::alloc::Global;
 
-/// The prefixes of the family that stand one behind the other in the octets.
+/// The prefixes of the family that stand one after the other in the octets.
 pub(crate) fn read_prefixes(
     alloc: Global,
     family: Family,

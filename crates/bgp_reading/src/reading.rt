@@ -20,7 +20,8 @@ use std::alloc::Global;
 /// `NotUpdate`. `NoMemory` may come at any time.
 pub fn read_update(alloc: Global, bytes: &[u8]) -> Result<UpdateParts, UpdateFault>
     ensures read { IfOk result (λ parts. IsUpdate parts bytes.now) }
-    ensures not_update { IsErrOf result UpdateFault.NotUpdate → (parts : UpdateParts) → ¬ IsUpdate parts bytes.now }
+    ensures not_update { IsErrOf result UpdateFault.NotUpdate → (parts : UpdateParts)
+        → ¬ IsUpdate parts bytes.now }
     ensures value { IfOk result (λ parts. update_of bytes.now ≡ Some parts) }
     ensures none { IsErrOf result UpdateFault.NotUpdate → update_of bytes.now ≡ None }
 {
@@ -61,7 +62,7 @@ fn read_attributes(alloc: Global, bytes: &[u8]) -> Result<Option<UpdateParts>, N
     read_announcement(alloc, announced_family(bytes), bytes)
 }
 
-/// The family of announced prefixes: those of IPv4 are behind the attributes.
+/// The family of announced prefixes: those of IPv4 are after the attributes.
 fn announced_family(bytes: &[u8]) -> Family
     ensures { result ≡ announced_family bytes.now }
 {

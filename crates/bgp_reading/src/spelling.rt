@@ -30,7 +30,8 @@ pub(crate) fn are_withdrawn(
     is_message(alloc, bytes, &withdrawn_part(family), prefixes)
 }
 
-/// Whether the octets are the sender's message that announces the prefixes of the family with these terms.
+/// Whether the octets are the sender's message that announces the prefixes of the family with these
+/// terms.
 #[tactic(auto, unfolding(crate::specs::Reading::are_announced))]
 pub(crate) fn are_announced(
     alloc: Global,
@@ -44,7 +45,8 @@ pub(crate) fn are_announced(
     requires communities { 4 * length terms.now.communities ≤ 4096 }
     requires large { 12 * length terms.now.large ≤ 4096 }
     requires fits { All Fits prefixes.now }
-    ensures { IfOk result (λ b. b ≡ are_announced family bytes.now sender.now terms.now prefixes.now) }
+    ensures { IfOk result (λ b. b ≡ are_announced family bytes.now sender.now terms.now
+        prefixes.now) }
 {
     if !are_prefixes(prefixes) {
         return Ok(false);

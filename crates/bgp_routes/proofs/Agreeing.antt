@@ -8,11 +8,13 @@ use Rattle.mlb_base.proofs.Among.{any-contains}
 use Rattle.pool_config.specs.Choice.{Selects}
 use Rattle.pool_config.specs.ConfigValue.{ConfigValue}
 use Rattle.pool_config.specs.declared.compiled.CompiledPeer.{CompiledPeer}
+use Rattle.speaker_view.specs.Advertised.{IsAnnouncedFrom}
 use Rattle.speaker_view.specs.ViewValue.{ViewValue}
+use Rattle.speaker_view.proofs.Serving.{announced_from-Decides}
 use Rattle.bgp_updates.specs.declared.route.Terms.{Terms}
 use Rattle.bgp_updates.specs.Received.{same_prefix}
 use Rattle.bgp_updates.proofs.ReceivedLaws.{same_prefix-itself}
-use Rattle.bgp_routes.specs.Contribution.{IsAnnounced, IsContribution}
+use Rattle.bgp_routes.specs.Contribution.{IsContribution}
 use Rattle.bgp_routes.specs.Differ.{DiffersAt}
 use Rattle.bgp_routes.specs.Few.{HasFewInForce}
 use Rattle.bgp_routes.specs.Parts.{OthersAgree, bgp_in, bgp_of, is_touched, prefix_under}
@@ -21,7 +23,7 @@ use Rattle.bgp_routes.proofs.Few.{contributions-ascend}
 use Rattle.bgp_routes.proofs.Listing.{contributions-listed}
 use Rattle.bgp_routes.proofs.Sets.{stated-same}
 use Rattle.bgp_routes.proofs.Stated.{routes-stated}
-use Rattle.bgp_routes.proofs.Stays.{any-in, from-announced, to-announced}
+use Rattle.bgp_routes.proofs.Stays.{any-in}
 
 -- the same the other way round
 pub turned : (u v : ViewValue) (node : List ℕ) (addresses : List AddressValue) → DiffersAt u v node addresses → DiffersAt v u node addresses
@@ -37,7 +39,7 @@ touched-by addresses p config = list_any (λ a. list_any (λ adv. same_prefix p 
 module _ (u v : ViewValue) (node : List ℕ) (addresses : List AddressValue) (differs : DiffersAt u v node addresses) (peer : CompiledPeer) (both : Bool) where
   module _ (c : PrefixValue × Terms) (by : IsContribution u node peer both c) (untouched : is_touched v addresses c.0 ≡ false) where
     in_force : v.held.config ≡ Some by.advertised.config
-    in_force = sym differs.config ∙ by.advertised.in_force
+    in_force = sym differs.config ∙ by.advertised.meant.in_force
 
     there : IsIn (bgp_of v) by.advertisement
     there = subst (λ (config : Option ConfigValue). IsIn (bgp_in config) by.advertisement) (sym in_force) by.advertised.there
@@ -52,25 +54,29 @@ module _ (u v : ViewValue) (node : List ℕ) (addresses : List AddressValue) (di
         ∙ any-contains (λ (a : AddressValue). list_any (λ adv. same_prefix c.0 (prefix_under adv a)) (bgp_of v)) addresses by.address listed
         (any-in (λ adv. same_prefix c.0 (prefix_under adv by.address)) (bgp_of v) by.advertisement there own))
 
-    announced : IsAnnounced v node both by.address
-    announced = to-announced v node both by.address by.announced.counts
-        (sym (differs.announced by.address not-listed) ∙ from-announced u node both by.address by.announced)
+    announced : IsAnnouncedFrom v by.address node
+    announced =
+        (announced_from-Decides v by.address node).0
+        (sym (differs.announced by.address not-listed) ∙ (announced_from-Decides u by.address node).1 by.announced)
 
     -- what isn't contributed by these addresses is contributed by both
     pub into : IsContribution v node peer both c
     into = record {
       peer_selects = subst (Selects peer.node_selectors) differs.labels by.peer_selects;
       address = by.address;
+      counts = by.counts;
       announced = announced;
       advertisement = by.advertisement;
       advertised = record {
         config = by.advertised.config;
-        in_force = in_force;
         there = by.advertised.there;
-        pool = by.advertised.pool;
-        pool_is = by.advertised.pool_is;
-        chosen = by.advertised.chosen;
-        selected = subst (Selects by.advertisement.node_selectors) differs.labels by.advertised.selected;
+        meant = record {
+          in_force = in_force;
+          pool = by.advertised.meant.pool;
+          pool_is = by.advertised.meant.pool_is;
+          chosen = by.advertised.meant.chosen;
+          selected = subst (Selects by.advertisement.node_selectors) differs.labels by.advertised.meant.selected;
+        };
         named = by.advertised.named;
       };
       is = by.is;

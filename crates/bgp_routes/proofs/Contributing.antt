@@ -16,6 +16,7 @@ use Rattle.pool_config.specs.PoolOf.{pool_with}
 use Rattle.pool_config.proofs.Tests.{chooses-Decides, selects-Decides}
 use Rattle.speaker_view.specs.Endpoints.{announced_from, node_labels}
 use Rattle.speaker_view.specs.ViewValue.{ViewValue}
+use Rattle.speaker_view.proofs.Serving.{announced_from-Decides}
 use Rattle.bgp_updates.specs.declared.route.Terms.{Terms}
 use Rattle.bgp_routes.specs.declared.contributors.Aggregate.{Aggregate}
 use Rattle.bgp_routes.specs.declared.kept_config.Advertisement.{Advertisement}
@@ -28,7 +29,6 @@ use Rattle.bgp_routes.specs.Routes.{counts, is_for}
 use Rattle.bgp_routes.proofs.Listing.{counts-Decides, for-Decides}
 use Rattle.bgp_routes.proofs.Placed.{place_cmp-exact, place_cmp-total}
 use Rattle.bgp_routes.proofs.Standing.{at-itself, at-same}
-use Rattle.bgp_routes.proofs.Stays.{from-announced, to-announced}
 
 -- ---- items at places
 pub in-at : {A : Type 0} (xs : List A) (x : A) → IsIn xs x → (n : ℕ) × (slice_get xs n ≡ Some x)
@@ -110,16 +110,19 @@ module _ (v : ViewValue) (node : List ℕ) (both : Bool) where
         record {
           peer_selects = (selects-Decides peer.node_selectors labels).0 hear.0;
           address = a;
-          announced = to-announced v node both a counted chosen.announced;
+          counts = counted;
+          announced = (announced_from-Decides v a node).0 chosen.announced;
           advertisement = adv;
           advertised = record {
             config = config;
-            in_force = in_force;
             there = at-in config.bgp adv n at;
-            pool = chosen.pool;
-            pool_is = chosen.pool_is;
-            chosen = (chooses-Decides adv.pools adv.pool_selectors chosen.pool.name chosen.pool.labels).0 choose.0;
-            selected = (selects-Decides adv.node_selectors labels).0 choose.1;
+            meant = record {
+              in_force = in_force;
+              pool = chosen.pool;
+              pool_is = chosen.pool_is;
+              chosen = (chooses-Decides adv.pools adv.pool_selectors chosen.pool.name chosen.pool.labels).0 choose.0;
+              selected = (selects-Decides adv.node_selectors labels).0 choose.1;
+            };
             named = (for-Decides v node peer both adv).0 hear.1;
           };
           is = refl;
@@ -155,8 +158,8 @@ module _ (v : ViewValue) (node : List ℕ) (both : Bool) where
     listed-contributes c by =
         let adv = by.advertisement in
         let a = by.address in
-        let pool = by.advertised.pool in
-        let in_force = by.advertised.in_force in
+        let pool = by.advertised.meant.pool in
+        let in_force = by.advertised.meant.in_force in
         let there : IsIn bgp adv = subst (λ (o : Option ConfigValue). IsIn (bgp_in o) adv) (sym in_force) by.advertised.there in
         let found = in-at bgp adv there in
         let n = found.0 in
@@ -164,13 +167,13 @@ module _ (v : ViewValue) (node : List ℕ) (both : Bool) where
         let own : is_own g a (slice_get (map advertisement_of bgp) n) ≡ true =
         ap (is_own g a) (at-map advertisement_of bgp n adv found.1) ∙ at-itself place_cmp place_cmp-total (place_of (prefix_of (advertisement_of adv) a)) in
         let stands =
-        and_from (counts both a.family) (is_own g a (slice_get (map advertisement_of bgp) n)) ((counts-Decides both a.family).1 by.announced.counts) own in
-        let pool_is : pool_with (pools_of v) a ≡ Some pool = ap (λ (o : Option ConfigValue). pool_with (pools_in o) a) in_force ∙ by.advertised.pool_is in
+        and_from (counts both a.family) (is_own g a (slice_get (map advertisement_of bgp) n)) ((counts-Decides both a.family).1 by.counts) own in
+        let pool_is : pool_with (pools_of v) a ≡ Some pool = ap (λ (o : Option ConfigValue). pool_with (pools_in o) a) in_force ∙ by.advertised.meant.pool_is in
         let chosen : is_chosen labels pool adv ≡ true =
         and_from (chooses adv.pools adv.pool_selectors pool.name pool.labels) (selects adv.node_selectors labels)
-        ((chooses-Decides adv.pools adv.pool_selectors pool.name pool.labels).1 by.advertised.chosen)
-        ((selects-Decides adv.node_selectors labels).1 by.advertised.selected) in
-        let flag = chosen-flag a pool n adv (from-announced v node both a by.announced) pool_is found.1 chosen in
+        ((chooses-Decides adv.pools adv.pool_selectors pool.name pool.labels).1 by.advertised.meant.chosen)
+        ((selects-Decides adv.node_selectors labels).1 by.advertised.meant.selected) in
+        let flag = chosen-flag a pool n adv ((announced_from-Decides v a node).1 by.announced) pool_is found.1 chosen in
         record {
           place = n;
           adv = adv;

@@ -32,7 +32,7 @@ module _ {A : Type 0} (Before : A → A → Type 0) (apart : (x y : A) → Befor
   later x y (z ∷ xs) all (inl here) = subst (Before x) here all.0
   later x y (z ∷ xs) all (inr there) = later x y xs all.1 there
 
-  -- an item behind the head isn't the head
+  -- an item after the head isn't the head
   behind : (x y : A) (xs ys : List A) → AllByRecursion (Before x) xs → IsIn xs y → IsIn (x ∷ ys) y → IsIn ys y
   behind x y xs ys all there (inl here) =
       let first : Before x y = later x y xs all there in

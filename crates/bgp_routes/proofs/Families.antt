@@ -29,7 +29,7 @@ pub routes-of-ipv4 : RoutesAreOfIpv4
 routes-of-ipv4 v node peer =
     All-from_recursion IsOfIpv4 (routes_of v node peer false) (all-from IsOfIpv4 (routes_of v node peer false) (λ route there.
     let by = ((routes-unite v node peer false).routes route there).preference.there in
-    ap (λ (c : PrefixValue × Terms). c.0.family) by.is ∙ alone by.address.family by.announced.counts))
+    ap (λ (c : PrefixValue × Terms). c.0.family) by.is ∙ alone by.address.family by.counts))
 
 module _ (v : ViewValue) (node : List ℕ) (peer : CompiledPeer) where
   -- whether it counts is all that `both` decides
@@ -38,13 +38,8 @@ module _ (v : ViewValue) (node : List ℕ) (peer : CompiledPeer) where
   counted both other c by counts = record {
     peer_selects = by.peer_selects;
     address = by.address;
-    announced = record {
-      counts = counts;
-      service = by.announced.service;
-      held = by.announced.held;
-      recorded = by.announced.recorded;
-      announces = by.announced.announces;
-    };
+    counts = counts;
+    announced = by.announced;
     advertisement = by.advertisement;
     advertised = by.advertised;
     is = by.is;
@@ -57,7 +52,7 @@ module _ (v : ViewValue) (node : List ℕ) (peer : CompiledPeer) where
       → IsIn (contributions v node peer true) (p, t) × (same_family p.family V4 ≡ true)
   into p t there =
       let by = (contributions-listed v node peer false (p, t)).0 there in
-      let four : p.family ≡ V4 = own-family false (p, t) by ∙ alone by.address.family by.announced.counts in
+      let four : p.family ≡ V4 = own-family false (p, t) by ∙ alone by.address.family by.counts in
       ((contributions-listed v node peer true (p, t)).1 (counted false true (p, t) by (inr refl)), ap (λ f. same_family f V4) four)
 
   back : (p : PrefixValue) (t : Terms) → same_family p.family V4 ≡ true → IsIn (contributions v node peer true) (p, t)

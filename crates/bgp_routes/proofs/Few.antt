@@ -74,7 +74,7 @@ module _ (v : ViewValue) (node : List ℕ) (peer : CompiledPeer) (both : Bool) (
   contribution-ascends : (c : PrefixValue × Terms) → IsContribution v node peer both c → Ascends c
   contribution-ascends c by =
       let adv = by.advertised in
-      let config = limited adv.config adv.in_force in
+      let config = limited adv.config adv.meant.in_force in
       subst Ascends (sym by.is) (record {
         numbers = each-of (λ a. IsStrictlySortedBy nat_cmp a.communities) adv.config.bgp by.advertisement config.numbers.ascend adv.there;
         large = each-of (λ a. IsStrictlySortedBy large_cmp a.large) adv.config.bgp by.advertisement config.large.ascend adv.there;
@@ -93,7 +93,7 @@ module _ (v : ViewValue) (node : List ℕ) (peer : CompiledPeer) (both : Bool) (
     value-of : (config : ConfigValue) → v.held.config ≡ Some config → (k : K) → HasCommunity kind v node peer both p k → HasValue values config k
     value-of config in_force k (terms, by, has) =
         let adv = by.advertised in
-        let same : Some adv.config ≡ Some config = sym adv.in_force ∙ in_force in
+        let same : Some adv.config ≡ Some config = sym adv.meant.in_force ∙ in_force in
         let one : adv.config ≡ config = cc in
         let are : kind terms ≡ values by.advertisement = ap (λ (c : PrefixValue × Terms). kind c.1) by.is ∙ own by.address by.advertisement in
         subst (λ (c : ConfigValue). HasValue values c k) one
@@ -103,7 +103,7 @@ module _ (v : ViewValue) (node : List ℕ) (peer : CompiledPeer) (both : Bool) (
     none-there [] limit none each = omega arith
     none-there (k ∷ ks) limit none each =
         let (terms, by, has) = each k (inl refl) in
-        let wrong : None ≡ Some by.advertised.config = sym none ∙ by.advertised.in_force in
+        let wrong : None ≡ Some by.advertised.config = sym none ∙ by.advertised.meant.in_force in
         absurd (cc)
 
     few-by : (o : Option ConfigValue) {R : K → K → Ordering} (ks : List K) (limit : ℕ) → v.held.config ≡ o

@@ -8,7 +8,7 @@ use Rattle.ip_ranges.specs.declared.family.Family.TheVariants.{V4, V6}
 use Rattle.ip_ranges.specs.Values.{AddressValue, PrefixValue}
 use Rattle.kube_labels.specs.Names.{has_text}
 use Rattle.mlb_base.specs.Items.{IsIn, is_nil}
-use Rattle.mlb_base.proofs.Lists.{Decides-nil}
+use Rattle.mlb_base.proofs.Lists.{Decides-nil, contains-in, in-contains}
 use Rattle.pool_config.specs.declared.compiled.CompiledBgp.{CompiledBgp}
 use Rattle.pool_config.specs.declared.compiled.CompiledPeer.{CompiledPeer}
 use Rattle.pool_config.specs.declared.compiled.CompiledPool.{CompiledPool}
@@ -145,12 +145,14 @@ module _ (v : ViewValue) (node : List ℕ) (peer : CompiledPeer) (both : Bool) w
         by.adv,
         record {
           config = config;
-          in_force = in_force;
           there = by.there;
-          pool = found.pool;
-          pool_is = found.pool_is;
-          chosen = by.passes.0.0;
-          selected = by.passes.0.1;
+          meant = record {
+            in_force = in_force;
+            pool = found.pool;
+            pool_is = found.pool_is;
+            chosen = by.passes.0.0;
+            selected = by.passes.0.1;
+          };
           named = by.passes.1;
         },
         by.is,
@@ -169,11 +171,11 @@ module _ (v : ViewValue) (node : List ℕ) (peer : CompiledPeer) (both : Bool) w
       record {
         peer_selects = peer_selects;
         address = address;
+        counts = (counts-Decides both address.family).0 counted.0;
         announced = record {
-          counts = (counts-Decides both address.family).0 counted.0;
           service = service;
-          held = of.there;
-          recorded = at.there;
+          held = in-contains (objects_of v.held.services) service of.there;
+          recorded = in-contains service.holding.addresses address at.there;
           announces = (can_announce-Decides v service node).0 on.0;
         };
         advertisement = by.0;
@@ -193,16 +195,19 @@ module _ (v : ViewValue) (node : List ℕ) (peer : CompiledPeer) (both : Bool) w
       let adv = by.advertisement in
       let config = by.advertised.config in
       let own : IsIn (of_found v node peer address (pool_with config.pools address) config.bgp) (contribution peer address adv) =
-      subst (λ found. IsIn (of_found v node peer address found config.bgp) (contribution peer address adv)) (sym by.advertised.pool_is)
-      (passing-pool address by.advertised.pool config.bgp adv by.advertised.there ((by.advertised.chosen, by.advertised.selected), by.advertised.named)) in
+      subst (λ found. IsIn (of_found v node peer address found config.bgp) (contribution peer address adv)) (sym by.advertised.meant.pool_is)
+      (passing-pool address by.advertised.meant.pool config.bgp adv by.advertised.there
+      ((by.advertised.meant.chosen, by.advertised.meant.selected), by.advertised.named)) in
       let of_one = pass (counts both address.family) (of_found v node peer address (pool_with config.pools address) config.bgp) (contribution peer address adv)
-      ((counts-Decides both address.family).1 by.announced.counts) own in
+      ((counts-Decides both address.family).1 by.counts) own in
       let of_all = pass (can_announce v service node) (flat_map (of_address v node peer both config) service.holding.addresses) (contribution peer address adv)
       ((can_announce-Decides v service node).1 by.announced.announces)
-      (flat-in (of_address v node peer both config) service.holding.addresses address (contribution peer address adv) by.announced.recorded of_one) in
+      (flat-in (of_address v node peer both config) service.holding.addresses address (contribution peer address adv)
+      (contains-in service.holding.addresses address by.announced.recorded) of_one) in
       let of_config' : IsIn (of_config v node peer both v.held.config) (contribution peer address adv) =
-      subst (λ held. IsIn (of_config v node peer both held) (contribution peer address adv)) (sym by.advertised.in_force)
-      (flat-in (of_service v node peer both config) (objects_of v.held.services) service (contribution peer address adv) by.announced.held of_all) in
+      subst (λ held. IsIn (of_config v node peer both held) (contribution peer address adv)) (sym by.advertised.meant.in_force)
+      (flat-in (of_service v node peer both config) (objects_of v.held.services) service (contribution peer address adv)
+      (contains-in (objects_of v.held.services) service by.announced.held) of_all) in
       subst (IsIn (contributions v node peer both)) (sym by.is)
       (pass (selects peer.node_selectors (node_labels v node)) (of_config v node peer both v.held.config) (contribution peer address adv)
       ((selects-Decides peer.node_selectors (node_labels v node)).1 by.peer_selects) of_config')

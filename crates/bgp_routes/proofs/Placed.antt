@@ -126,7 +126,7 @@ values-by Equal e entries more place c found same first none here rest = rw (sam
 values-by Greater e entries more place c found same first none here rest =
     rw (same, first) (ap (λ (routes : List (PrefixValue × Terms)). e.1 ∷ routes) (rest refl))
 
--- a look-up passes over an entry before the place
+-- a look-up skips an entry before the place
 passes : {X : Type 0} (r : Ordering) (v : X) (rest : Option X) → r ≡ Greater → cond (is_eq r) (Some v) rest ≡ rest
 passes Less v rest e = absurd (cc)
 passes Equal v rest e = absurd (cc)

@@ -71,7 +71,7 @@ ascend-with (route ∷ routes) c ascend =
 pub stays : (routes : List (PrefixValue × Terms)) (c : PrefixValue × Terms) → IsTable routes → IsPrefix c.0 → IsTable (with_contribution routes c)
 stays routes c table is = (all-keys IsPrefix routes c table.0 is, ascend-with routes c table.1)
 
--- ---- one contribution behind the other
+-- ---- one contribution after the other
 
 pub with-append : (routes a b : List (PrefixValue × Terms)) → with_contributions routes (a ++ b) ≡ with_contributions (with_contributions routes a) b
 with-append routes [] b = refl

@@ -1,20 +1,15 @@
 -- Where all stays that decides who may announce an address, the same is contributed for it.
-use Rattle.std.proofs.Common.{◌≡◌, ℕ, Bool, true, ◌&&◌, List, [], ◌∷◌, inl, inr, refl, sym, ap, ◌∙◌, subst, Contains}
-use Rattle.std.proofs.lemmas.Bool.{and_from, and_parts, false≢true, or_cases, or_left, or_right}
+use Rattle.std.proofs.Common.{◌≡◌, ℕ, Bool, true, List, [], ◌∷◌, inl, inr, refl, sym, ap, ◌∙◌, subst, Contains}
+use Rattle.std.proofs.lemmas.Bool.{false≢true, or_cases, or_left, or_right}
 use Rattle.std.specs.List.{list_any}
-use Rattle.ip_ranges.specs.Values.{AddressValue, PrefixValue, has_address, same_address}
-use Rattle.ip_ranges.proofs.AddressLaws.{same_address-is, same_address-itself}
-use Rattle.kube_model.specs.declared.service.Service.{Service}
+use Rattle.ip_ranges.specs.Values.{AddressValue, PrefixValue}
 use Rattle.mlb_base.specs.Items.{IsIn}
 use Rattle.pool_config.specs.declared.compiled.CompiledPeer.{CompiledPeer}
 use Rattle.pool_config.specs.Choice.{Selects}
 use Rattle.speaker_view.specs.Change.{StaysAt}
-use Rattle.speaker_view.specs.Endpoints.{announced_from, can_announce}
-use Rattle.speaker_view.specs.Held.{objects_of}
 use Rattle.speaker_view.specs.ViewValue.{ViewValue}
-use Rattle.speaker_view.proofs.Serving.{can_announce-Decides}
+use Rattle.speaker_view.proofs.Serving.{announced_from-Decides}
 use Rattle.bgp_updates.specs.declared.route.Terms.{Terms}
-use Rattle.bgp_routes.specs.Contribution.{Counts, IsAnnounced}
 use Rattle.bgp_routes.specs.Stays.{ContributionsStay, IsContributionFor}
 
 pub any-in : {T : Type 0} (p : T → Bool) (xs : List T) (x : T) → IsIn xs x → p x ≡ true → list_any p xs ≡ true
@@ -28,32 +23,6 @@ in-any p (y ∷ ys) e = elim (or_cases (p y) (list_any p ys) e) [
   | inl here ↦ (y, inl refl, here)
   | inr later ↦ (let rest = in-any p ys later in (rest.0, inr rest.1, rest.2))
 ]
-
--- ---- an address is announced from a node where the test says so
-module _ (v : ViewValue) (node : List ℕ) (both : Bool) (a : AddressValue) where
-  abbrev announces : Service → Bool
-  announces service = has_address service.holding.addresses a && can_announce v service node
-
-  pub from-announced : IsAnnounced v node both a → announced_from v a node ≡ true
-  from-announced h =
-      let recorded : has_address h.service.holding.addresses a ≡ true =
-      any-in (same_address a) h.service.holding.addresses a h.recorded (same_address-itself a) in
-      any-in announces (objects_of v.held.services) h.service h.held
-      (and_from (has_address h.service.holding.addresses a) (can_announce v h.service node) recorded ((can_announce-Decides v h.service node).1 h.announces))
-
-  pub to-announced : Counts both a.family → announced_from v a node ≡ true → IsAnnounced v node both a
-  to-announced counts e =
-      let found = in-any announces (objects_of v.held.services) e in
-      let service : Service = found.0 in
-      let both = and_parts (has_address service.holding.addresses a) (can_announce v service node) found.2 in
-      let recorded = in-any (same_address a) service.holding.addresses both.0 in
-      record {
-        counts = counts;
-        service = service;
-        held = found.1;
-        recorded = subst (λ (x : AddressValue). IsIn service.holding.addresses x) (sym (same_address-is a recorded.0 recorded.2)) recorded.1;
-        announces = (can_announce-Decides v service node).0 both.1;
-      }
 
 stays-back : (v w : ViewValue) (nodes : List (List ℕ)) (a : AddressValue) → StaysAt v w nodes a → StaysAt w v nodes a
 stays-back v w nodes a stays = record {
@@ -75,16 +44,20 @@ contributed-before v w nodes a stays node other peer both c x =
       contribution = record {
         peer_selects = subst (Selects peer.node_selectors) labels now.peer_selects;
         address = at;
-        announced = to-announced v node both at now.announced.counts (sym (here.announced node other) ∙ from-announced w node both at now.announced);
+        counts = now.counts;
+        announced =
+            (announced_from-Decides v at node).0 (sym (here.announced node other) ∙ (announced_from-Decides w at node).1 now.announced);
         advertisement = now.advertisement;
         advertised = record {
           config = now.advertised.config;
-          in_force = sym stays.config ∙ now.advertised.in_force;
           there = now.advertised.there;
-          pool = now.advertised.pool;
-          pool_is = now.advertised.pool_is;
-          chosen = now.advertised.chosen;
-          selected = subst (Selects now.advertisement.node_selectors) labels now.advertised.selected;
+          meant = record {
+            in_force = sym stays.config ∙ now.advertised.meant.in_force;
+            pool = now.advertised.meant.pool;
+            pool_is = now.advertised.meant.pool_is;
+            chosen = now.advertised.meant.chosen;
+            selected = subst (Selects now.advertisement.node_selectors) labels now.advertised.meant.selected;
+          };
           named = now.advertised.named;
         };
         is = now.is;

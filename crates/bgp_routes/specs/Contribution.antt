@@ -3,16 +3,13 @@ use Rattle.std.specs.Prelude.{◌≡◌, ℕ, Bool, true, ◌==◌, if◌then◌
 use Rattle.ip_ranges.specs.declared.family.Family.{Family}
 use Rattle.ip_ranges.specs.declared.family.Family.TheVariants.{V4, V6}
 use Rattle.ip_ranges.specs.Values.{AddressValue, PrefixValue, masked}
-use Rattle.kube_model.specs.declared.service.Service.{Service}
 use Rattle.mlb_base.specs.Items.{IsIn}
 use Rattle.pool_config.specs.declared.compiled.CompiledBgp.{CompiledBgp}
 use Rattle.pool_config.specs.declared.compiled.CompiledPeer.{CompiledPeer}
-use Rattle.pool_config.specs.declared.compiled.CompiledPool.{CompiledPool}
-use Rattle.pool_config.specs.Choice.{Chooses, Selects}
+use Rattle.pool_config.specs.Choice.{Selects}
 use Rattle.pool_config.specs.ConfigValue.{ConfigValue}
-use Rattle.pool_config.specs.PoolOf.{pool_with}
-use Rattle.speaker_view.specs.Endpoints.{CanAnnounce, node_labels}
-use Rattle.speaker_view.specs.Held.{objects_of}
+use Rattle.speaker_view.specs.Advertised.{IsAnnouncedFrom, IsMeant}
+use Rattle.speaker_view.specs.Endpoints.{node_labels}
 use Rattle.speaker_view.specs.ViewValue.{ViewValue}
 use Rattle.bgp_updates.specs.declared.route.Terms.{Terms}
 
@@ -20,24 +17,12 @@ use Rattle.bgp_updates.specs.declared.route.Terms.{Terms}
 abbrev pub Counts : Bool → Family → Type 0
 Counts both family = (family ≡ V4) ⊎ (both ≡ true)
 
--- an address of a family that counts, which is recorded on some held service that can be announced from the node
-pub record IsAnnounced (v : ViewValue) (node : List ℕ) (both : Bool) (address : AddressValue) : Type 0 where
-  pub counts : Counts both address.family
-  pub service : Service
-  pub held : IsIn (objects_of v.held.services) service
-  pub recorded : IsIn service.holding.addresses address
-  pub announces : CanAnnounce v service node
-
--- The BGPAdvertisement is one of the configuration in force; it chooses the pool that has the address (`spec.ipAddressPools`,
--- `spec.ipAddressPoolSelectors`), selects the node (`spec.nodeSelectors`), and names the peer or none (`spec.peers`).
+-- The BGPAdvertisement is one of the configuration in force, is meant for the pool that has the address, and for the node, and names the peer or none
+-- (`spec.peers`).
 pub record IsAdvertisedBy (v : ViewValue) (node : List ℕ) (peer : CompiledPeer) (address : AddressValue) (advertisement : CompiledBgp) : Type 0 where
   pub config : ConfigValue
-  pub in_force : v.held.config ≡ Some config
   pub there : IsIn config.bgp advertisement
-  pub pool : CompiledPool
-  pub pool_is : pool_with config.pools address ≡ Some pool
-  pub chosen : Chooses advertisement.pools advertisement.pool_selectors pool.name pool.labels
-  pub selected : Selects advertisement.node_selectors (node_labels v node)
+  pub meant : IsMeant v address node config advertisement.pools advertisement.pool_selectors advertisement.node_selectors
   pub named : (advertisement.peers ≡ []) ⊎ IsIn advertisement.peers peer.name
 
 -- a preference is told to a peer of the same AS alone
@@ -59,11 +44,12 @@ abbrev pub contribution : CompiledPeer → AddressValue → CompiledBgp → Pref
 contribution peer address adv =
     (masked address (length_for address.family adv), record { preference = told peer adv.local_pref; communities = adv.communities; large = adv.large })
 
--- The peer selects the node, and an advertisement contributes this for an address that is announced from the node.
+-- The peer selects the node, and an advertisement contributes this for an address of a family that counts, which is announced from the node.
 pub record IsContribution (v : ViewValue) (node : List ℕ) (peer : CompiledPeer) (both : Bool) (c : PrefixValue × Terms) : Type 0 where
   pub peer_selects : Selects peer.node_selectors (node_labels v node)
   pub address : AddressValue
-  pub announced : IsAnnounced v node both address
+  pub counts : Counts both address.family
+  pub announced : IsAnnouncedFrom v address node
   pub advertisement : CompiledBgp
   pub advertised : IsAdvertisedBy v node peer address advertisement
   pub is : c ≡ contribution peer address advertisement

@@ -6,7 +6,8 @@ ghost use Rattle.speaker_view.specs.Held.{objects_of};
 ghost use Rattle.bgp_updates.specs.Tables.{HasFew, IsTable};
 ghost use Rattle.bgp_routes.specs.Contribution.{contribution, length_for, told};
 ghost use Rattle.bgp_routes.specs.Laws.{AreRoutes};
-ghost use Rattle.bgp_routes.specs.Routes.{advertises, counts, is_for, of_address, of_pool, of_service, routes_of};
+ghost use Rattle.bgp_routes.specs.Routes.{advertises, counts, is_for, of_address, of_pool};
+ghost use Rattle.bgp_routes.specs.Routes.{of_service, routes_of};
 ghost use Rattle.bgp_routes.specs.Uniting.{with_contributions, with_each};
 
 use crate::uniting::UnitedRoutes;
@@ -21,12 +22,14 @@ use std::alloc::Global;
 
 /// The routes that the node announces to the peer.
 ///
-/// Each address that is recorded on some service which can be announced from the node, and each BGPAdvertisement (MetalLB) of the
-/// configuration in force that chooses the address's pool, selects the node and names the peer or none, contributes the address masked
-/// to `aggregationLength`, or to `aggregationLengthV6` where it is of IPv6; but with `both` false addresses of IPv6 contribute nothing.
-/// A route's communities are those of all contributions of its prefix, and so are its large ones; its preference is the greatest of
-/// theirs for a peer of the same AS, else `None`. The table is empty where the peer doesn't select the node. No route has more than 512
-/// communities, nor more than 128 large ones. `NoMemory` may come at any time.
+/// Each address that is recorded on some service which can be announced from the node, and each
+/// BGPAdvertisement (MetalLB) of the configuration in force that chooses the address's pool,
+/// selects the node and names the peer or none, contributes the address masked to
+/// `aggregationLength`, or to `aggregationLengthV6` where it is of IPv6; but with `both` false
+/// addresses of IPv6 contribute nothing. A route's communities are those of all contributions of
+/// its prefix, and so are its large ones; its preference is the greatest of theirs for a peer of
+/// the same AS, else `None`. The table is empty where the peer doesn't select the node. No route
+/// has more than 512 communities, nor more than 128 large ones. `NoMemory` may come at any time.
 pub fn routes(
     alloc: Global,
     view: &View,
@@ -75,7 +78,9 @@ fn add_services(
     both: bool,
     config: &Config,
 ) -> Result<(), NoMemory>
-    ensures { OnOk result (routes.new ≡ with_each (of_service view.now node.now peer.now both config.now) routes.old (objects_of view.now.held.services)) }
+    ensures { OnOk result (routes.new
+        ≡ with_each (of_service view.now node.now peer.now both config.now) routes.old
+        (objects_of view.now.held.services)) }
 {
     for (_, held) in view.services().iter() {
         add_service(routes, view, node, peer, both, config, &held.object)?;
@@ -93,7 +98,9 @@ fn add_service(
     config: &Config,
     service: &Service,
 ) -> Result<(), NoMemory>
-    ensures { OnOk result (routes.new ≡ with_contributions routes.old (of_service view.now node.now peer.now both config.now service.now)) }
+    ensures { OnOk result (routes.new
+        ≡ with_contributions routes.old
+        (of_service view.now node.now peer.now both config.now service.now)) }
 {
     if !view.can_announce(service, node) {
         return Ok(());
@@ -118,7 +125,9 @@ fn add_addresses(
     config: &Config,
     addresses: &[Address],
 ) -> Result<(), NoMemory>
-    ensures { OnOk result (routes.new ≡ with_each (of_address view.now node.now peer.now both config.now) routes.old addresses.now) }
+    ensures { OnOk result (routes.new
+        ≡ with_each (of_address view.now node.now peer.now both config.now) routes.old
+        addresses.now) }
 {
     for address in addresses {
         add_address(routes, view, node, peer, both, config, address)?;
@@ -135,7 +144,9 @@ fn add_address(
     config: &Config,
     address: &Address,
 ) -> Result<(), NoMemory>
-    ensures { OnOk result (routes.new ≡ with_contributions routes.old (of_address view.now node.now peer.now both config.now address.now)) }
+    ensures { OnOk result (routes.new
+        ≡ with_contributions routes.old
+        (of_address view.now node.now peer.now both config.now address.now)) }
 {
     if !counts(both, address.family) {
         return Ok(());
@@ -173,7 +184,9 @@ fn add_pool(
     pool: &CompiledPool,
     bgp: &[CompiledBgp],
 ) -> Result<(), NoMemory>
-    ensures { OnOk result (routes.new ≡ with_contributions routes.old (of_pool view.now node.now peer.now address.now pool.now bgp.now)) }
+    ensures { OnOk result (routes.new
+        ≡ with_contributions routes.old
+        (of_pool view.now node.now peer.now address.now pool.now bgp.now)) }
 {
     for advertisement in bgp {
         if advertises(view, node, peer, pool, advertisement) {
@@ -225,7 +238,8 @@ fn contribution(
     address: &Address,
     advertisement: &CompiledBgp,
 ) -> Result<Route, NoMemory>
-    ensures value { IfOk result (λ route. route ≡ contribution peer.now address.now advertisement.now) }
+    ensures value { IfOk result (λ route. route
+        ≡ contribution peer.now address.now advertisement.now) }
     ensures prefix { IfOk result (λ route. IsPrefix route.0) }
 {
     let prefix = mask(address, length_for(address.family, advertisement));

@@ -20,7 +20,8 @@ pub(crate) struct Aggregate {
     pub(crate) advertisement: usize,
 }
 
-/// For each aggregate the addresses that contribute to it. A call takes the logarithm of their number.
+/// For each aggregate the addresses that contribute to it. A call takes the logarithm of their
+/// number.
 #[derive(Drop)]
 pub(crate) struct Contributors {
     addresses: GroupedKeys<Aggregate, Address>,

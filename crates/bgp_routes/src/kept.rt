@@ -23,9 +23,10 @@ use std::mem;
 
 /// What a node announces to the peers of a view's configuration in force, kept from event to event.
 ///
-/// For each prefix under each advertisement the addresses that contribute to it are held, so an event costs what it touches: for each
-/// address and each advertisement the logarithm of how many are held. A peer's table, or a part of one, is made of that. After `NoMemory`
-/// no peer is held, and `rebuild` makes it good.
+/// For each prefix under each advertisement the addresses that contribute to it are held, so an
+/// event costs what it touches: for each address and each advertisement the logarithm of how many
+/// are held. A peer's table, or a part of one, is made of that. After `NoMemory` no peer is held,
+/// and `rebuild` makes it good.
 pub struct KeptRoutes {
     alloc: Global,
     node: Text,
@@ -55,7 +56,8 @@ impl Model for KeptRoutes {
 }
 
 impl KeptRoutes {
-    /// The routes of the node for no peer, which take no memory; with `both` false they will be of IPv4 alone.
+    /// The routes of the node for no peer, which take no memory; with `both` false they will be of
+    /// IPv4 alone.
     pub fn new(alloc: Global, node: Text, both: bool) -> KeptRoutes
         ensures node { result.node ≡ node }
         ensures both { result.both ≡ both }
@@ -87,8 +89,8 @@ impl KeptRoutes {
         }
     }
 
-    /// Makes what is kept right for the view, where it is right for one that differs from it at these addresses at most. It looks at these
-    /// addresses alone.
+    /// Makes what is kept right for the view, where it is right for one that differs from it at
+    /// these addresses at most. It looks at these addresses alone.
     pub fn renew(&mut self, view: &View, addresses: &AddressList) -> Result<(), NoMemory>
         requires { AreKeptBut view.now addresses.now self.old }
         ensures node { self.new.node ≡ self.old.node }
@@ -105,11 +107,12 @@ impl KeptRoutes {
         }
     }
 
-    /// The whole table of the peer, by the view for which this is right, and `None` exactly where no peer of its name with its AS numbers
-    /// is held.
+    /// The whole table of the peer, by the view for which this is right, and `None` exactly where
+    /// no peer of its name with its AS numbers is held.
     pub fn table_of(&self, peer: &CompiledPeer) -> Result<Option<RouteTable>, NoMemory>
         ensures table { (v : ViewValue) → AreKeptFor v self.now
-            → IfOk result (λ found. found ≡ table_found peer.now (tables_of v self.now.node self.now.both)) }
+            → IfOk result (λ found. found ≡ table_found peer.now
+            (tables_of v self.now.node self.now.both)) }
         ensures few { IfOk result (λ found. IfSome found (λ table. All HasFew table)) }
     {
         let Some(peer) = self.held.peer(peer) else {
@@ -128,7 +131,8 @@ impl KeptRoutes {
         addresses: &AddressList,
     ) -> Result<Option<RouteTable>, NoMemory>
         ensures part { (v : ViewValue) → AreKeptFor v self.now
-            → IfOk result (λ found. found ≡ option_map (part_of v addresses.now) (table_found peer.now (tables_of v self.now.node self.now.both))) }
+            → IfOk result (λ found. found ≡ option_map (part_of v addresses.now)
+            (table_found peer.now (tables_of v self.now.node self.now.both))) }
         ensures few { IfOk result (λ found. IfSome found (λ table. All HasFew table)) }
     {
         let Some(peer) = self.held.peer(peer) else {

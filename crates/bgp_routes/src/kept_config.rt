@@ -4,8 +4,10 @@ ghost use Rattle.std.specs.Option.{option_copied, option_map};
 ghost use Rattle.std.specs.List.{find};
 ghost use Rattle.ip_ranges.specs.Values.{IsPrefix, width_of};
 ghost use Rattle.bgp_routes.specs.Contributors.{aggregate_of};
-ghost use Rattle.bgp_routes.specs.KeptConfig.{AreFew, advertisement_of, choice_at, choice_by, choice_in, receives, kept_config_for, is_before};
-ghost use Rattle.bgp_routes.specs.KeptConfig.{is_chosen, is_kept_of, is_set, length_in, peer_by, pool_at, pools_of, prefix_of, route_for};
+ghost use Rattle.bgp_routes.specs.KeptConfig.{AreFew, advertisement_of, choice_at, choice_by};
+ghost use Rattle.bgp_routes.specs.KeptConfig.{choice_in, receives, kept_config_for, is_before};
+ghost use Rattle.bgp_routes.specs.KeptConfig.{is_chosen, is_kept_of, is_set, length_in, peer_by};
+ghost use Rattle.bgp_routes.specs.KeptConfig.{pool_at, pools_of, prefix_of, route_for};
 ghost use Rattle.bgp_routes.specs.Parts.{bgp_of};
 ghost use Rattle.pool_config.specs.PoolOf.{pool_with};
 
@@ -47,7 +49,8 @@ pub(crate) struct KeptPeer {
     receives: Sequence<bool>,
 }
 
-/// The advertisements and the peers of a configuration, and for each pool which of the advertisements choose it and select the node.
+/// The advertisements and the peers of a configuration, and for each pool which of the
+/// advertisements choose it and select the node.
 #[derive(Drop)]
 pub(crate) struct KeptConfig {
     advertisements: Sequence<Advertisement>,
@@ -109,7 +112,8 @@ impl KeptConfig {
         peer_among(self.peers.as_slice(), peer)
     }
 
-    /// Which of the advertisements choose the address's pool and select the node, where the address is announced from it.
+    /// Which of the advertisements choose the address's pool and select the node, where the address
+    /// is announced from it.
     pub(crate) fn choice_at(&self, view: &View, node: &Text, address: &Address) -> &[bool]
         requires { self.now ≡ kept_config_for view.now node.now }
         ensures { result.now ≡ choice_at view.now node.now address.now }
@@ -216,7 +220,8 @@ impl KeptPeer {
     }
 
     fn told(&self, preference: u32) -> Option<u32>
-        ensures { result ≡ (if self.now.my_asn == self.now.peer_asn then Some preference else None) }
+        ensures { result ≡ (if self.now.my_asn == self.now.peer_asn then Some preference
+            else None) }
     {
         if self.my_asn == self.peer_asn {
             Some(preference)
@@ -231,7 +236,8 @@ impl KeptPeer {
         address: &Address,
         advertisement: &Advertisement,
     ) -> Result<Route, NoMemory>
-        ensures value { IfOk result (λ route. route ≡ route_for self.now address.now advertisement.now) }
+        ensures value { IfOk result (λ route. route
+            ≡ route_for self.now address.now advertisement.now) }
         ensures prefix { IfOk result (λ route. IsPrefix route.0) }
     {
         let prefix = advertisement.prefix(address);

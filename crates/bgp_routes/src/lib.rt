@@ -1,4 +1,8 @@
 //! The routes that a node announces to BGP peers.
+//!
+//! Of routes the addresses that contribute are kept, not tables: an aggregate of many addresses
+//! then costs an event of one of them the logarithm of their number. A table is made when it is
+//! told, and takes memory then.
 #![tactic(auto)]
 
 mod announced;

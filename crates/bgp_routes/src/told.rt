@@ -2,7 +2,8 @@
 ghost use Rattle.std.specs.Prelude.{◌≡◌, [], IfOk, OnOk};
 ghost use Rattle.std.specs.Map.{keys_of};
 ghost use Rattle.std.specs.List.{flat_map};
-ghost use Rattle.bgp_routes.specs.Contributors.{is_told, of_address, of_advertisements, of_aggregate};
+ghost use Rattle.bgp_routes.specs.Contributors.{is_told, of_address, of_advertisements};
+ghost use Rattle.bgp_routes.specs.Contributors.{of_aggregate};
 ghost use Rattle.bgp_routes.specs.Uniting.{with_contributions, with_each};
 
 use crate::contributors::{Aggregate, Contributors};
@@ -22,7 +23,9 @@ pub(crate) fn part_told(
     peer: &KeptPeer,
     addresses: &[Address],
 ) -> Result<RouteTable, NoMemory>
-    ensures { IfOk result (λ table. table ≡ with_contributions [] (flat_map (of_address contributors.now advertisements.now peer.now) addresses.now)) }
+    ensures { IfOk result (λ table. table
+        ≡ with_contributions [] (flat_map
+        (of_address contributors.now advertisements.now peer.now) addresses.now)) }
 {
     let mut routes = UnitedRoutes::new(alloc);
     add_addresses(&mut routes, contributors, advertisements, peer, addresses)?;
@@ -38,7 +41,9 @@ pub(crate) fn all_told(
     peer: &KeptPeer,
 ) -> Result<RouteTable, NoMemory>
     ensures { IfOk result
-        (λ table. table ≡ with_contributions [] (flat_map (of_aggregate contributors.now advertisements.now peer.now) (keys_of contributors.now))) }
+        (λ table. table ≡ with_contributions []
+        (flat_map (of_aggregate contributors.now advertisements.now peer.now)
+        (keys_of contributors.now))) }
 {
     let mut routes = UnitedRoutes::new(alloc);
     add_aggregates(&mut routes, contributors, advertisements, peer)?;
@@ -59,7 +64,9 @@ fn add_addresses(
     peer: &KeptPeer,
     addresses: &[Address],
 ) -> Result<(), NoMemory>
-    ensures { OnOk result (routes.new ≡ with_each (of_address contributors.now advertisements.now peer.now) routes.old addresses.now) }
+    ensures { OnOk result (routes.new
+        ≡ with_each (of_address contributors.now advertisements.now peer.now) routes.old
+        addresses.now) }
 {
     for address in addresses {
         add_address(routes, contributors, advertisements, peer, address)?;
@@ -74,7 +81,9 @@ fn add_address(
     peer: &KeptPeer,
     address: &Address,
 ) -> Result<(), NoMemory>
-    ensures { OnOk result (routes.new ≡ with_contributions routes.old (of_address contributors.now advertisements.now peer.now address.now)) }
+    ensures { OnOk result (routes.new
+        ≡ with_contributions routes.old
+        (of_address contributors.now advertisements.now peer.now address.now)) }
 {
     for (place, advertisement) in advertisements.iter().enumerate() {
         if is_told(contributors, peer, address, place, advertisement) {
@@ -106,7 +115,9 @@ fn add_aggregates(
     advertisements: &[Advertisement],
     peer: &KeptPeer,
 ) -> Result<(), NoMemory>
-    ensures { OnOk result (routes.new ≡ with_each (of_aggregate contributors.now advertisements.now peer.now) routes.old (keys_of contributors.now)) }
+    ensures { OnOk result (routes.new
+        ≡ with_each (of_aggregate contributors.now advertisements.now peer.now) routes.old
+        (keys_of contributors.now)) }
 {
     for aggregate in contributors.aggregates() {
         add_aggregate(routes, contributors, advertisements, peer, aggregate)?;
@@ -121,7 +132,9 @@ fn add_aggregate(
     peer: &KeptPeer,
     aggregate: &Aggregate,
 ) -> Result<(), NoMemory>
-    ensures { OnOk result (routes.new ≡ with_contributions routes.old (of_aggregate contributors.now advertisements.now peer.now aggregate.now)) }
+    ensures { OnOk result (routes.new
+        ≡ with_contributions routes.old
+        (of_aggregate contributors.now advertisements.now peer.now aggregate.now)) }
 {
     if !peer.receives(aggregate.advertisement) {
         return Ok(());

@@ -11,7 +11,8 @@ use kube_labels::Text;
 use mlb_base::NoMemory;
 use speaker_view::View;
 
-/// Makes what these addresses contribute right for the view, where addresses of IPv6 count with `both` alone.
+/// Makes what these addresses contribute right for the view, where addresses of IPv6 count with
+/// `both` alone.
 pub(crate) fn touch_all(
     contributors: &mut Contributors,
     held: &KeptConfig,
@@ -22,7 +23,8 @@ pub(crate) fn touch_all(
 ) -> Result<(), NoMemory>
     requires held { held.now ≡ kept_config_for view.now node.now }
     requires stand { StandRight both held.now.advertisements contributors.old }
-    ensures { OnOk result (AreTouched view.now node.now both addresses.now contributors.old contributors.new) }
+    ensures { OnOk result (AreTouched view.now node.now both addresses.now contributors.old
+        contributors.new) }
 {
     for address in addresses {
         touch(contributors, held, view, node, both, address)?;
@@ -40,7 +42,8 @@ fn touch(
 ) -> Result<(), NoMemory>
     requires held { held.now ≡ kept_config_for view.now node.now }
     requires stand { StandRight both held.now.advertisements contributors.old }
-    ensures { OnOk result (IsTouched view.now node.now both address.now contributors.old contributors.new) }
+    ensures { OnOk result (IsTouched view.now node.now both address.now contributors.old
+        contributors.new) }
 {
     if counts(both, address.family) {
         let choice = held.choice_at(view, node, address);
@@ -57,7 +60,8 @@ fn put_by_all(
     flags: &[bool],
     address: &Address,
 ) -> Result<(), NoMemory>
-    ensures { OnOk result (IsPutByAll advertisements.now flags.now address.now contributors.old contributors.new) }
+    ensures { OnOk result (IsPutByAll advertisements.now flags.now address.now contributors.old
+        contributors.new) }
 {
     for (place, advertisement) in advertisements.iter().enumerate() {
         let aggregate = advertisement.aggregate(place, address);

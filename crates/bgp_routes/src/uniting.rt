@@ -7,7 +7,8 @@ ghost use Rattle.large_numbers.specs.Large.{large_cmp};
 ghost use Rattle.pool_config.specs.KeySets.{keys_with};
 ghost use Rattle.bgp_updates.specs.Tables.{IsTable};
 ghost use Rattle.bgp_routes.specs.Placed.{place_of, united_with};
-ghost use Rattle.bgp_routes.specs.Uniting.{are_same, ascend_from, greater, united, united_terms, with_contribution};
+ghost use Rattle.bgp_routes.specs.Uniting.{are_same, ascend_from, greater, united, united_terms};
+ghost use Rattle.bgp_routes.specs.Uniting.{with_contribution};
 
 use bgp_updates::Route;
 use ip_ranges::{Address, Prefix};
@@ -18,8 +19,8 @@ use std::alloc::Global;
 use std::collections::{BTreeMap, BTreeSet};
 use std::marker::Model;
 
-/// Routes of prefixes, one a prefix, which contracts see as their list by ascending prefix. A contribution finds its place in the
-/// logarithm of their number.
+/// Routes of prefixes, one a prefix, which contracts see as their list by ascending prefix. A
+/// contribution finds its place in the logarithm of their number.
 #[derive(Drop)]
 pub(crate) struct UnitedRoutes {
     alloc: Global,
@@ -59,7 +60,8 @@ impl UnitedRoutes {
         }
     }
 
-    /// A contribution is united with the route of its prefix, or is a route of its own in its place.
+    /// A contribution is united with the route of its prefix, or is a route of its own in its
+    /// place.
     pub(crate) fn add(&mut self, route: Route) -> Result<(), NoMemory>
         requires { IsPrefix route.0 }
         ensures { OnOk result (self.new ≡ with_contribution self.old route) }

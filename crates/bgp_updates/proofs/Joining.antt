@@ -88,7 +88,7 @@ pub places-stay : (entries : List (TermsKey × ℕ)) (groups : List RouteGroup) 
     → ArePlaces entries (with_prefix groups place p)
 places-stay entries groups place p are key = are key ∙ sym (place-with_prefix groups place p (terms_in key))
 
--- the place of a group behind the others
+-- the place of a group after the others
 abbrev last_place : ℕ → Bool → Option ℕ
 last_place n same = cond same (Some n) None
 

@@ -29,7 +29,7 @@ address_bytes V6 number = to_be_bytes w128 number
 abbrev pub prefix_bytes : PrefixValue → List ℕ
 prefix_bytes p = p.length ∷ take (octets p) (address_bytes p.family p.number)
 
--- one behind the other
+-- one after the other
 abbrev pub prefixes_bytes : List PrefixValue → List ℕ
 prefixes_bytes prefixes = flat_map prefix_bytes prefixes
 
@@ -39,7 +39,7 @@ message_of withdrawn attributes announced =
     replicate 16 0xff ++ to_be_bytes w16 (23 + length withdrawn + length attributes + length announced) ++ (2 ∷ []) ++ to_be_bytes w16 (length withdrawn)
     ++ withdrawn ++ to_be_bytes w16 (length attributes) ++ attributes ++ announced
 
--- An attribute: its flags, its type, and its value behind a one-octet length; above 255 octets the flag of the extended length (0x10)
+-- An attribute: its flags, its type, and its value after a one-octet length; above 255 octets the flag of the extended length (0x10)
 -- and two octets.
 abbrev pub attribute : ℕ → ℕ → List ℕ → List ℕ
 attribute flags kind value =
@@ -50,7 +50,7 @@ attribute flags kind value =
 abbrev pub optional_attribute : ℕ → ℕ → List ℕ → List ℕ
 optional_attribute flags kind value = if length value == 0 then [] else attribute flags kind value
 
--- MP_UNREACH_NLRI and MP_REACH_NLRI, optional and not transitive: the address family IPv6, unicast; the next hop behind its length, and a
+-- MP_UNREACH_NLRI and MP_REACH_NLRI, optional and not transitive: the address family IPv6, unicast; the next hop after its length, and a
 -- reserved octet; the prefixes
 abbrev pub unreach_attribute : List ℕ → List ℕ
 unreach_attribute prefixes = attribute 0x80 15 ((0 ∷ 2 ∷ 1 ∷ []) ++ prefixes)

@@ -11,7 +11,7 @@ use crate::prefix::{is_before, is_v4, same_prefix};
 use crate::route::Route;
 use ip_ranges::Prefix;
 
-/// The route of the prefix in a table, found by halves, since tables ascend.
+/// The route of the prefix in a table, found by binary search, since tables ascend.
 pub(crate) fn route_at<'a>(table: &'a [Route], prefix: &Prefix) -> Option<&'a Route>
     requires { IsTable table.now }
     ensures { option_map (λ route. route.now.1) result ≡ terms_at table.now prefix.now }
@@ -27,12 +27,13 @@ pub(crate) fn route_at<'a>(table: &'a [Route], prefix: &Prefix) -> Option<&'a Ro
 /// How many routes of a table have prefixes before this one.
 fn count_before(table: &[Route], prefix: &Prefix) -> usize
     requires { IsTable table.now }
-    ensures { IsPartitionPoint (λ route. before route.0 prefix.now ≡ true) (λ route. before route.0 prefix.now ≡ false) table.now result }
+    ensures { IsPartitionPoint (λ route. before route.0 prefix.now ≡ true)
+        (λ route. before route.0 prefix.now ≡ false) table.now result }
 {
     table.partition_point(|route| is_before(&route.prefix, prefix))
 }
 
-/// The routes of IPv4, and those of IPv6, which stand behind them.
+/// The routes of IPv4, and those of IPv6, which stand after them.
 pub(crate) fn by_family(table: &[Route]) -> (&[Route], &[Route])
     requires { IsTable table.now }
     ensures v4 { result.0.now ≡ of_family V4 table.now }
@@ -44,7 +45,8 @@ pub(crate) fn by_family(table: &[Route]) -> (&[Route], &[Route])
 /// How many routes of a table are of IPv4.
 fn count_v4(table: &[Route]) -> usize
     requires { IsTable table.now }
-    ensures point { IsPartitionPoint (λ route. same_family route.0.family V4 ≡ true) (λ route. same_family route.0.family V4 ≡ false) table.now result }
+    ensures point { IsPartitionPoint (λ route. same_family route.0.family V4 ≡ true)
+        (λ route. same_family route.0.family V4 ≡ false) table.now result }
     ensures within { result ≤ length table.now }
 {
     table.partition_point(|route| is_v4(&route.prefix))

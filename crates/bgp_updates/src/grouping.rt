@@ -3,7 +3,8 @@ ghost use Rattle.std.specs.Prelude.{◌≡◌, ◌<◌, ◌∷◌, [], length, I
 ghost use Rattle.std.specs.BTreeMap.{is_at};
 ghost use Rattle.std.specs.Map.{lookup};
 ghost use Rattle.bgp_updates.specs.GroupPlaces.{ArePlaces, key_cmp, terms_in, with_prefix};
-ghost use Rattle.bgp_updates.specs.Received.{changed, groups_from, same_terms, stands_as, terms_at, with_route};
+ghost use Rattle.bgp_updates.specs.Received.{changed, groups_from, same_terms, stands_as, terms_at};
+ghost use Rattle.bgp_updates.specs.Received.{with_route};
 ghost use Rattle.bgp_updates.specs.Tables.{IsTable};
 
 use crate::finding::route_at;
@@ -22,15 +23,16 @@ pub(crate) struct TermsKey {
     large: Vec<LargeCommunity>,
 }
 
-/// The routes of the new table that the old one doesn't have equally, in groups. A route finds its group in the logarithm of the number
-/// of groups.
+/// The routes of the new table that the old one doesn't have equally, in groups. A route finds its
+/// group in the logarithm of the number of groups.
 pub(crate) fn changed_groups(
     alloc: Global,
     old: &[Route],
     new: &[Route],
 ) -> Result<Vec<RouteGroup>, NoMemory>
     requires { IsTable old.now }
-    ensures { IfOk result (λ groups. groups.items ≡ groups_from same_terms [] (changed same_terms old.now new.now)) }
+    ensures { IfOk result (λ groups. groups.items
+        ≡ groups_from same_terms [] (changed same_terms old.now new.now)) }
 {
     let mut groups = Vec::new(alloc);
     let mut places = BTreeMap::new(alloc);
@@ -69,7 +71,8 @@ fn join(
     route: &Route,
 ) -> Result<(), NoMemory>
     requires { ArePlaces places.old.entries groups.old.items }
-    ensures groups { OnOk result (groups.new.items ≡ with_route same_terms groups.old.items route.now) }
+    ensures groups { OnOk result (groups.new.items
+        ≡ with_route same_terms groups.old.items route.now) }
     ensures places { OnOk result (ArePlaces places.new.entries groups.new.items) }
 {
     let key = key_of(alloc, route)?;
@@ -93,7 +96,8 @@ fn begin(
     requires places { ArePlaces places.old.entries groups.old.items }
     requires key { terms_in key ≡ route.now.1 }
     requires absent { lookup (is_at (key_cmp key)) places.old.entries ≡ None }
-    ensures groups { OnOk result (groups.new.items ≡ with_route same_terms groups.old.items route.now) }
+    ensures groups { OnOk result (groups.new.items
+        ≡ with_route same_terms groups.old.items route.now) }
     ensures places { OnOk result (ArePlaces places.new.entries groups.new.items) }
 {
     let _none = places.insert(key, groups.len())?;

@@ -1,5 +1,6 @@
 //! What holds of the messages between any two tables.
-ghost use Rattle.bgp_updates.specs.Laws.{HopsAreOfRoutes, MessagesFit, MessagesGiveTheTable, MessagesSpell};
+ghost use Rattle.bgp_updates.specs.Laws.{HopsAreOfRoutes, MessagesFit, MessagesGiveTheTable};
+ghost use Rattle.bgp_updates.specs.Laws.{MessagesSpell};
 ghost use Rattle.bgp_updates.specs.Laws.{NamedPrefixesDiffer, PartsTellAll, PrefixesStandOnce};
 ghost use Rattle.bgp_updates.specs.OneFamily.{OneFamilyAlone};
 
@@ -9,7 +10,8 @@ pub fn messages_give_the_table()
     ensures table { MessagesGiveTheTable }
 {}
 
-/// Every prefix in a message has a route that differs between the tables, and stands in one message, once.
+/// Every prefix in a message has a route that differs between the tables, and stands in one
+/// message, once.
 pub fn messages_name_what_differs()
     ensures differ { NamedPrefixesDiffer }
     ensures once { PrefixesStandOnce }
@@ -20,7 +22,8 @@ pub fn messages_fit()
     ensures { MessagesFit }
 {}
 
-/// Where all routes are of IPv4 and none has a large community, the messages are those of IPv4 alone (RFC 4271, RFC 1997).
+/// Where all routes are of IPv4 and none has a large community, the messages are those of IPv4
+/// alone (RFC 4271, RFC 1997).
 pub fn one_family_alone()
     ensures { OneFamilyAlone }
 {}
@@ -30,7 +33,8 @@ pub fn hops_are_of_routes()
     ensures { HopsAreOfRoutes }
 {}
 
-/// Where two tables agree outside a set of prefixes, the messages between their routes inside it are all messages.
+/// Where two tables agree outside a set of prefixes, the messages between their routes inside it
+/// are all messages.
 pub fn parts_tell_all()
     ensures { PartsTellAll }
 {}

@@ -1,6 +1,7 @@
 //! As many prefixes a message as fit.
 ghost use Rattle.std.specs.Prelude.{◌≡◌, ◌+◌, ◌++◌, ◌≤◌, All, IfOk, OnOk, [], length};
-ghost use Rattle.bgp_updates.specs.Message.{Fits, fitting, message_of, part_bytes, part_messages, part_size, reach_attribute, unreach_attribute};
+ghost use Rattle.bgp_updates.specs.Message.{Fits, fitting, message_of, part_bytes, part_messages};
+ghost use Rattle.bgp_updates.specs.Message.{part_size, reach_attribute, unreach_attribute};
 
 use crate::part::Part;
 use crate::prefix::octets;
@@ -80,7 +81,8 @@ fn reached(
     prefixes: &[u8],
 ) -> Result<Vec<u8>, NoMemory>
     requires { 48 + length front.now + length back.now + length prefixes.now ≤ 65535 }
-    ensures { IfOk result (λ m. m.items ≡ message_of [] (front.now ++ reach_attribute hop prefixes.now ++ back.now) []) }
+    ensures { IfOk result (λ m. m.items
+        ≡ message_of [] (front.now ++ reach_attribute hop prefixes.now ++ back.now) []) }
 {
     let mut attributes = Vec::new(alloc);
     attributes.extend_from_slice(front)?;

@@ -12,7 +12,8 @@ pub enum Part {
     Announced {
         attributes: ByteList,
     },
-    /// IPv6 prefixes are announced by a next hop, in MP_REACH_NLRI (RFC 4760, section 3), which stands behind the attributes in front.
+    /// IPv6 prefixes are announced by a next hop, in MP_REACH_NLRI (RFC 4760, section 3), which
+    /// stands after the attributes in front.
     Reached {
         front: ByteList,
         hop: u128,

@@ -30,7 +30,8 @@ pub(crate) fn put_prefix(prefix: &Prefix, out: &mut Vec<u8>) -> Result<(), NoMem
 fn put_front(family: Family, number: u128, count: usize, out: &mut Vec<u8>) -> Result<(), NoMemory>
     requires number { number < 2 ^ width_of family }
     requires count { count ≤ width_of family / 8 }
-    ensures { OnOk result (out.new.items ≡ out.old.items ++ take count (address_bytes family number)) }
+    ensures { OnOk result (out.new.items
+        ≡ out.old.items ++ take count (address_bytes family number)) }
 {
     match family {
         Family::V4 => {
@@ -59,7 +60,8 @@ pub(crate) fn same_prefix(p: &Prefix, q: &Prefix) -> bool
     p.family == q.family && p.number == q.number && p.length == q.length
 }
 
-/// Whether the prefix comes before the other one: IPv4 first, then by number and then by length. It takes no memory.
+/// Whether the prefix comes before the other one: IPv4 first, then by number and then by length. It
+/// takes no memory.
 pub fn is_before(p: &Prefix, q: &Prefix) -> bool
     ensures { result ≡ before p.now q.now }
 {

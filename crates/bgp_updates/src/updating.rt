@@ -1,10 +1,12 @@
 //! The messages between two tables.
-ghost use Rattle.std.specs.Prelude.{◌≡◌, ◌==◌, if◌then◌else◌, ◌++◌, ◌≤◌, [], None, Some, All, IfOk, OnOk, is_some, length};
+ghost use Rattle.std.specs.Prelude.{◌≡◌, ◌==◌, if◌then◌else◌, ◌++◌, ◌≤◌, [], None, Some, All, IfOk};
+ghost use Rattle.std.specs.Prelude.{OnOk, is_some, length};
 ghost use Rattle.std.specs.List.{flat_map};
 ghost use Rattle.std.specs.Map.{keys_of};
 ghost use Rattle.std.specs.Option.{option_copied};
 ghost use Rattle.ip_ranges.specs.declared.family.Family.TheVariants.{V4};
-ghost use Rattle.bgp_updates.specs.Between.{group_messages, messages_between, messages_for, number_of_hop, peering_of, HasHops, IsRouteGroup};
+ghost use Rattle.bgp_updates.specs.Between.{group_messages, messages_between, messages_for};
+ghost use Rattle.bgp_updates.specs.Between.{number_of_hop, peering_of, HasHops, IsRouteGroup};
 ghost use Rattle.bgp_updates.specs.Message.{part_messages, withdrawn_part};
 ghost use Rattle.bgp_updates.specs.Received.{changed, gone, groups_from, same_terms, terms_at};
 ghost use Rattle.bgp_updates.specs.Tables.{HasFew, IsTable};
@@ -19,8 +21,8 @@ use mlb_base::{NoMemory, Sequence};
 use pool_config::CompiledPeer;
 use std::alloc::Global;
 
-/// The UPDATE messages that make the new table of the old one, for a peer with this IPv4 next hop, and this IPv6 one (RFC 4271, section 3.1;
-/// RFC 4760).
+/// The UPDATE messages that make the new table of the old one, for a peer with this IPv4 next hop,
+/// and this IPv6 one (RFC 4271, section 3.1; RFC 4760).
 ///
 /// Of each family, IPv4 first, come the prefixes that have a route in the old table alone, ascending, as withdrawn routes. Then come the
 /// routes of the new table that the old one doesn't have equally, in groups of equal preference, equal communities and equal large
@@ -39,7 +41,8 @@ pub fn updates(
     requires hop_v6 { HasHops (option_copied next_hop_v6) new.now }
     requires few { All HasFew new.now }
     ensures messages { IfOk result
-        (λ messages. messages ≡ messages_between (peering_of peer.now next_hop.now (option_copied next_hop_v6.entry)) old.now new.now) }
+        (λ messages. messages ≡ messages_between
+        (peering_of peer.now next_hop.now (option_copied next_hop_v6.entry)) old.now new.now) }
     ensures fit { IfOk result (λ messages. All (λ message. length message ≤ 4096) messages) }
     ensures old { IsTable old.now }
     ensures new { IsTable new.now }
@@ -60,7 +63,8 @@ fn peering_of(peer: &CompiledPeer, next_hop: &Address, next_hop_v6: Option<&Addr
 }
 
 fn own_of(peer: &CompiledPeer) -> Option<u32>
-    ensures { result ≡ (if peer.now.my_asn == peer.now.peer_asn then None else Some peer.now.my_asn) }
+    ensures { result ≡ (if peer.now.my_asn == peer.now.peer_asn then None
+        else Some peer.now.my_asn) }
 {
     if peer.my_asn == peer.peer_asn {
         None
@@ -97,8 +101,8 @@ fn between(
     Ok(messages)
 }
 
-/// Appends the messages of a family between its routes: those that withdraw, and then those that announce what the old table doesn't
-/// have equally.
+/// Appends the messages of a family between its routes: those that withdraw, and then those that
+/// announce what the old table doesn't have equally.
 fn put_family(
     alloc: Global,
     messages: &mut MessageList,
@@ -110,7 +114,8 @@ fn put_family(
     requires old { IsTable old.now }
     requires new { IsTable new.now }
     requires few { All HasFew new.now }
-    ensures { OnOk result (messages.new ≡ messages.old ++ messages_for family peering.now old.now new.now) }
+    ensures { OnOk result (messages.new
+        ≡ messages.old ++ messages_for family peering.now old.now new.now) }
 {
     put_withdrawals(alloc, messages, family, old, new)?;
     let groups = changed_groups(alloc, old, new)?;
@@ -127,7 +132,8 @@ fn put_withdrawals(
 ) -> Result<(), NoMemory>
     requires old { IsTable old.now }
     requires new { IsTable new.now }
-    ensures { OnOk result (messages.new ≡ messages.old ++ part_messages (withdrawn_part family) (keys_of (gone old.now new.now))) }
+    ensures { OnOk result (messages.new
+        ≡ messages.old ++ part_messages (withdrawn_part family) (keys_of (gone old.now new.now))) }
 {
     let gone = gone_prefixes(alloc, old, new)?;
     put_messages(alloc, messages, &withdrawn_part(family), gone.as_slice())
@@ -161,7 +167,8 @@ fn put_groups(
     groups: &[RouteGroup],
 ) -> Result<(), NoMemory>
     requires { All IsRouteGroup groups.now }
-    ensures { OnOk result (messages.new ≡ messages.old ++ flat_map (group_messages family peering.now) groups.now) }
+    ensures { OnOk result (messages.new
+        ≡ messages.old ++ flat_map (group_messages family peering.now) groups.now) }
 {
     for group in groups {
         let part = announced_part(alloc, family, peering, &group.terms)?;

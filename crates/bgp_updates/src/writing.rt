@@ -1,9 +1,12 @@
 //! The parts of UPDATE messages, written.
 ghost use Rattle.std.specs.Int.{w128, to_be_bytes};
 ghost use Rattle.std.specs.Prelude.{◌≡◌, ◌+◌, ◌*◌, ◌++◌, ◌∷◌, ◌≤◌, All, IfOk, OnOk, [], length};
-ghost use Rattle.bgp_updates.specs.Message.{Fits, announced_part, attribute, communities_attribute, communities_bytes, front_of, hop_attribute};
-ghost use Rattle.bgp_updates.specs.Message.{large_attribute, large_octets, larges_bytes, message_of, optional_attribute, path_attribute};
-ghost use Rattle.bgp_updates.specs.Message.{preference_attribute, prefixes_bytes, reach_attribute, unreach_attribute, withdrawn_part};
+ghost use Rattle.bgp_updates.specs.Message.{Fits, announced_part, attribute, communities_attribute};
+ghost use Rattle.bgp_updates.specs.Message.{communities_bytes, front_of, hop_attribute};
+ghost use Rattle.bgp_updates.specs.Message.{large_attribute, large_octets, larges_bytes};
+ghost use Rattle.bgp_updates.specs.Message.{message_of, optional_attribute, path_attribute};
+ghost use Rattle.bgp_updates.specs.Message.{preference_attribute, prefixes_bytes, reach_attribute};
+ghost use Rattle.bgp_updates.specs.Message.{unreach_attribute, withdrawn_part};
 
 use crate::octets::{put_u16, put_u32};
 use crate::part::Part;
@@ -14,8 +17,8 @@ use large_numbers::LargeCommunity;
 use mlb_base::{NoMemory, Sequence};
 use std::alloc::Global;
 
-/// The octets of an UPDATE message of three parts (RFC 4271, section 4.3): withdrawn routes, path attributes and announced prefixes. Its
-/// lengths have two octets each.
+/// The octets of an UPDATE message of three parts (RFC 4271, section 4.3): withdrawn routes, path
+/// attributes and announced prefixes. Its lengths have two octets each.
 pub fn message_octets(
     alloc: Global,
     withdrawn: &[u8],
@@ -38,7 +41,8 @@ pub fn message_octets(
     Ok(message)
 }
 
-/// The octets of prefixes, one behind the other: each is its length in bits, and as few octets as hold it.
+/// The octets of prefixes, one after the other: each is its length in bits, and as few octets as
+/// hold it.
 pub fn prefix_octets(alloc: Global, prefixes: &[Prefix]) -> Result<Vec<u8>, NoMemory>
     requires { All Fits prefixes.now }
     ensures { IfOk result (λ bytes. bytes.items ≡ prefixes_bytes prefixes.now) }
@@ -50,7 +54,8 @@ pub fn prefix_octets(alloc: Global, prefixes: &[Prefix]) -> Result<Vec<u8>, NoMe
     Ok(bytes)
 }
 
-/// Appends a path attribute (RFC 4271, section 4.3), whose length has two octets where one isn't enough.
+/// Appends a path attribute (RFC 4271, section 4.3), whose length has two octets where one isn't
+/// enough.
 fn put_attribute(flags: u8, kind: u8, value: &[u8], out: &mut Vec<u8>) -> Result<(), NoMemory>
     requires flags { flags ≤ 0xc0 }
     requires value { length value.now ≤ 65535 }
@@ -72,7 +77,8 @@ fn put_attribute(flags: u8, kind: u8, value: &[u8], out: &mut Vec<u8>) -> Result
 fn put_optional(flags: u8, kind: u8, value: &[u8], out: &mut Vec<u8>) -> Result<(), NoMemory>
     requires flags { flags ≤ 0xc0 }
     requires value { length value.now ≤ 65535 }
-    ensures { OnOk result (out.new.items ≡ out.old.items ++ optional_attribute flags kind value.now) }
+    ensures { OnOk result (out.new.items
+        ≡ out.old.items ++ optional_attribute flags kind value.now) }
 {
     if value.is_empty() {
         return Ok(());
@@ -108,7 +114,8 @@ pub(crate) fn put_reach(
 }
 
 fn reach_value(alloc: Global, hop: u128, prefixes: &[u8]) -> Result<Vec<u8>, NoMemory>
-    ensures { IfOk result (λ value. value.items ≡ (0 ∷ 2 ∷ 1 ∷ 16 ∷ []) ++ to_be_bytes w128 hop ++ (0 ∷ []) ++ prefixes.now) }
+    ensures { IfOk result (λ value. value.items
+        ≡ (0 ∷ 2 ∷ 1 ∷ 16 ∷ []) ++ to_be_bytes w128 hop ++ (0 ∷ []) ++ prefixes.now) }
 {
     let mut value = Vec::new(alloc);
     value.extend_from_slice(&[0, 2, 1, 16])?;
@@ -159,8 +166,9 @@ pub fn announced_part(
     }
 }
 
-/// The octets of the path attributes in front, ascending by type: ORIGIN, AS_PATH and, of IPv4 routes, NEXT_HOP (RFC 4271, sections 5.1.1
-/// to 5.1.3), LOCAL_PREF inside one AS alone, 0 where the terms have none (section 5.1.5), and COMMUNITIES where there are some (RFC 1997).
+/// The octets of the path attributes in front, ascending by type: ORIGIN, AS_PATH and, of IPv4
+/// routes, NEXT_HOP (RFC 4271, sections 5.1.1 to 5.1.3), LOCAL_PREF inside one AS alone, 0 where
+/// the terms have none (section 5.1.5), and COMMUNITIES where there are some (RFC 1997).
 fn front_octets(
     alloc: Global,
     family: Family,

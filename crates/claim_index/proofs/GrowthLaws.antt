@@ -60,7 +60,7 @@ not-before (x ∷ xs) (suc i) d within apart =
     let later : i < length xs = omega (arith, within) in
     ap (λ b. b || among (take i xs) (get_or xs i d)) (not-any (same_slot x) xs i d apart.0 later) ∙ not-before xs i d later apart.1
 
--- and none of those behind it
+-- and none of those after it
 behind-by : (slots : List NumberedSlot) (i : ℕ) (d s : NumberedSlot) → i < length slots → AreApart slots → Contains (drop (suc i) slots) s
     → same_slot (get_or slots i d) s ≡ false
 behind-by [] i d s within apart there = absurd (omega (arith, within))
@@ -76,7 +76,7 @@ module _ (slots : List NumberedSlot) (i : ℕ) (x : NumberedSlot) (at : slice_ge
   is : get_or slots i x ≡ x
   is = get_or_from_slice_get slots i x x at
 
-  -- it and those behind it
+  -- it and those after it
   slots-rest : drop i slots ≡ x ∷ drop (i + 1) slots
   slots-rest = drop-cons slots i x within ∙ (λ j. is j ∷ drop (sym (add-one i) j) slots)
 
@@ -273,7 +273,7 @@ module _ (more : ℕ) (addresses : List AddressValue) (slots : List NumberedSlot
   room-here h room =
       room x (subst (λ (xs : List NumberedSlot). Contains xs x) (sym (slots-rest slots i x at)) (contains-first x (drop (i + 1) slots)))
 
-  -- and then in those behind it
+  -- and then in those after it
   pub room-behind : (before after : AddressHoldersValue) → AreApart slots
       → ((s : NumberedSlot) → Contains (drop i slots) s → HasRoomAt before more s addresses)
       → ((s : NumberedSlot) → same_slot x s ≡ false → in_slot after s ≡ in_slot before s)

@@ -39,7 +39,8 @@ impl Model for Claim {
 }
 
 impl Claim {
-    /// The key has this record: under the terms of its mark, and where it is the mark of none under the adopted ones.
+    /// The key has this record: under the terms of its mark, and where it is the mark of none under
+    /// the adopted ones.
     pub fn adopting(
         alloc: Global,
         key: &Key,
@@ -55,7 +56,8 @@ impl Claim {
         Claim::under(alloc, key, holding, terms)
     }
 
-    /// The key may have this record, under the terms of its mark; `None` where it is the mark of none.
+    /// The key may have this record, under the terms of its mark; `None` where it is the mark of
+    /// none.
     pub fn marked(alloc: Global, key: &Key, holding: &Record) -> Result<Option<Claim>, NoMemory>
         ensures { IfOk result (λ c. c
             ≡ option_map (λ terms. record { key = key.now; holding = holding.now; terms = terms }) (recorded_terms holding.now.mark)) }

@@ -3,7 +3,8 @@ ghost use Rattle.std.specs.Prelude.{◌≡◌, ◌≤◌, ℕ, List, [], Some, N
 ghost use Rattle.std.specs.Str.{bytes_eq};
 ghost use Rattle.address_holders.specs.declared.slot.NumberedSlot.TheVariants.{OfSharingGroup};
 ghost use Rattle.address_holders.specs.Holders.{claims_having};
-ghost use Rattle.claim_index.specs.GroupNumbers.{number_of, number_for, HasNumber, AreNumbered, AreMore};
+ghost use Rattle.claim_index.specs.GroupNumbers.{number_of, number_for, HasNumber, AreNumbered};
+ghost use Rattle.claim_index.specs.GroupNumbers.{AreMore};
 ghost use Rattle.claim_index.specs.ListedClaims.{AreFewer};
 ghost use Rattle.claim_index.specs.SharingGroups.{HasSharingGroup};
 
@@ -55,8 +56,9 @@ impl GroupNumbers {
         }
     }
 
-    /// The number of the group of the terms, which gets one where it has none; none where they have no sharing key. Where there is no
-    /// memory, or once all numbers have been given, it answers NoMemory, and all numbers stay.
+    /// The number of the group of the terms, which gets one where it has none; none where they have
+    /// no sharing key. Where there is no memory, or once all numbers have been given, it answers
+    /// NoMemory, and all numbers stay.
     pub(crate) fn give(&mut self, terms: &GroupedTerms) -> Result<Option<u64>, NoMemory>
         ensures number { IfOk result (λ number. number ≡ number_for self.new terms.now) }
         ensures given { OnOk result (HasNumber self.new terms.now) }
@@ -87,16 +89,19 @@ impl GroupNumbers {
 
     /// The group has no number any more.
     fn forget(&mut self, group: &Text)
-        ensures numbers { (g : List ℕ) → number_of self.new g ≡ (if bytes_eq group.now g then None else number_of self.old g) }
+        ensures numbers { (g : List ℕ)
+            → number_of self.new g ≡ (if bytes_eq group.now g then None else number_of self.old g) }
         ensures next { self.new.next ≡ self.old.next }
     {
         let _number = self.numbers.remove(group);
     }
 
-    /// The group of the terms has no number any more where no claim is listed in its slot. It takes no memory.
+    /// The group of the terms has no number any more where no claim is listed in its slot. It takes
+    /// no memory.
     pub(crate) fn forget_unused(&mut self, terms: &GroupedTerms, holders: &AddressHolders)
         ensures numbers { AreFewer holders.now self.old self.new }
-        ensures unused { (n : ℕ) → number_for self.old terms.now ≡ Some n → claims_having holders.now (OfSharingGroup n) ≡ (λ a. [])
+        ensures unused { (n : ℕ) → number_for self.old terms.now ≡ Some n
+            → claims_having holders.now (OfSharingGroup n) ≡ (λ a. [])
             → number_for self.new terms.now ≡ None }
         ensures next { self.new.next ≡ self.old.next }
     {

@@ -1,7 +1,8 @@
 //! Terms, with their group.
 ghost use Rattle.std.specs.Prelude.{◌≡◌, ◌≢◌, IfOk, OnOk, Some};
 ghost use Rattle.std.specs.Option.{option_copied};
-ghost use Rattle.claim_index.specs.SharingGroups.{sharing_group_of, group_of, HasSharingGroup, HasGroup};
+ghost use Rattle.claim_index.specs.SharingGroups.{sharing_group_of, group_of, HasSharingGroup};
+ghost use Rattle.claim_index.specs.SharingGroups.{HasGroup};
 
 use kube_labels::Text;
 use kube_model::both;
@@ -10,7 +11,8 @@ use sharing_terms::{PortSet, Terms, mark_text};
 use std::alloc::Global;
 use std::marker::Model;
 
-/// Terms, with the group of the claims that have a sharing key and backend in common with them. Contracts see the terms.
+/// Terms, with the group of the claims that have a sharing key and backend in common with them.
+/// Contracts see the terms.
 pub struct GroupedTerms {
     terms: Terms,
     group: Option<Text>,

@@ -1,5 +1,6 @@
 //! The claims under their numbers, and by what each is found.
-ghost use Rattle.std.specs.Prelude.{◌≡◌, ◌≤◌, ◌<◌, ◌+◌, ◌^◌, ◌==◌, ◌∷◌, ◌++◌, [], true, false, not, nat_lt, length, filter, find, Some, OnOk, IfSome, IfNone};
+ghost use Rattle.std.specs.Prelude.{◌≡◌, ◌≤◌, ◌<◌, ◌+◌, ◌^◌, ◌==◌, ◌∷◌, ◌++◌, [], true, false, not};
+ghost use Rattle.std.specs.Prelude.{nat_lt, length, filter, find, Some, OnOk, IfSome, IfNone};
 ghost use Rattle.std.specs.List.{All, list_all};
 ghost use Rattle.std.specs.List.Sorted.{IsStrictlySortedBy};
 ghost use Rattle.std.specs.Map.{lookup, keys_of, values_of};
@@ -12,8 +13,10 @@ ghost use Rattle.claim_index.specs.Room.{HasRoomFor};
 ghost use Rattle.claim_index.specs.GroupNumbers.{number_for};
 ghost use Rattle.claim_index.specs.SharingGroups.{HasSharingGroup};
 ghost use Rattle.claim_index.specs.Slots.{Any};
-ghost use Rattle.claim_index.specs.Index.{numbers_of, first_but, first_other, is_open, NoneShareable};
-ghost use Rattle.claim_index.specs.Reading.{is_claim_under, gives_way, is_of, yields_port, is_odd, belongs, leaves};
+ghost use Rattle.claim_index.specs.Index.{numbers_of, first_but, first_other, is_open};
+ghost use Rattle.claim_index.specs.Index.{NoneShareable};
+ghost use Rattle.claim_index.specs.Reading.{is_claim_under, gives_way, is_of, yields_port, is_odd};
+ghost use Rattle.claim_index.specs.Reading.{belongs, leaves};
 ghost use Rattle.address_holders.specs.Holders.{address_of};
 ghost use Rattle.number_sets.specs.Least.{IsLeastIn, NonePasses};
 
@@ -32,7 +35,8 @@ use sharing_terms::{Terms, may_share};
 use std::alloc::Global;
 use std::marker::Model;
 
-/// The claims, numbered in the order in which they came, and the numbers of those of each key and of those that have each address.
+/// The claims, numbered in the order in which they came, and the numbers of those of each key and
+/// of those that have each address.
 pub struct ClaimIndex {
     claims: NumberedList<Claim>,
     by_key: InvertedIndex<Key>,
@@ -88,7 +92,8 @@ impl ClaimIndex {
         reserve_claim(&mut self.holders, claim, group)
     }
 
-    /// The claim is added at the end, and its number is answered. There is room for it, so it takes no memory.
+    /// The claim is added at the end, and its number is answered. There is room for it, so it takes
+    /// no memory.
     pub fn add(&mut self, claim: Claim) -> u64
         requires room { HasRoomFor self.old.room claim }
         requires assigned { is_assigned claim.holding ≡ true }
@@ -134,9 +139,11 @@ impl ClaimIndex {
         self.claims.get(number)
     }
 
-    /// The first claim whose number is this one or a greater one, with its number, which is below 2^64 - 1.
+    /// The first claim whose number is this one or a greater one, with its number, which is below
+    /// 2^64 - 1.
     pub fn first_from(&self, number: u64) -> Option<(u64, &Claim)>
-        ensures item { option_map (λ p. (p.0, p.1.now)) result ≡ find (λ p. not (nat_lt p.0 number)) self.now.items }
+        ensures item { option_map (λ p. (p.0, p.1.now)) result
+            ≡ find (λ p. not (nat_lt p.0 number)) self.now.items }
         ensures within { IfSome result (λ p. p.0 + 1 < 2 ^ 64) }
         ensures ascending { IsStrictlySortedBy nat_cmp (keys_of self.now.items) }
     {
@@ -154,7 +161,8 @@ impl ClaimIndex {
 
     /// Whether the claim's key has another claim than this one.
     pub fn loses(&self, claim: &Claim) -> bool
-        ensures value { result ≡ loses claim.now.key claim.now.holding claim.now.terms (values_of self.now.items) }
+        ensures value { result ≡ loses claim.now.key claim.now.holding claim.now.terms
+            (values_of self.now.items) }
         ensures assigned { AreAssigned (values_of self.now.items) }
     {
         let claims = &self.claims;
@@ -166,7 +174,8 @@ impl ClaimIndex {
 
     /// Whether the claim's key has this very claim.
     pub fn claims_it(&self, claim: &Claim) -> bool
-        ensures { result ≡ claims_it claim.now.key claim.now.holding claim.now.terms (values_of self.now.items) }
+        ensures { result ≡ claims_it claim.now.key claim.now.holding claim.now.terms
+            (values_of self.now.items) }
     {
         let claims = &self.claims;
         self.by_key
@@ -182,10 +191,11 @@ impl ClaimIndex {
         !self.by_key.numbers(key).is_empty()
     }
 
-    /// Whether each claim leaves the address to a service of this key and these terms. Where they have a sharing key, only the claims of
-    /// the key and those with a port of the terms are asked.
+    /// Whether each claim leaves the address to a service of this key and these terms. Where they
+    /// have a sharing key, only the claims of the key and those with a port of the terms are asked.
     pub fn all_leave(&self, key: &Key, terms: &GroupedTerms, address: &Address) -> bool
-        ensures { result ≡ list_all (leaves key.now terms.now address.now) (values_of self.now.items) }
+        ensures { result ≡ list_all (leaves key.now terms.now address.now)
+            (values_of self.now.items) }
     {
         match self.groups.number(terms) {
             Some(group) => {
@@ -197,12 +207,14 @@ impl ClaimIndex {
         }
     }
 
-    /// Whether each claim on the address is of the key, or alike with the terms, whose group has this number. That is so where as many
-    /// claims aren't of their group as there are such of the key.
+    /// Whether each claim on the address is of the key, or alike with the terms, whose group has
+    /// this number. That is so where as many claims aren't of their group as there are such of the
+    /// key.
     fn all_belong(&self, key: &Key, terms: &GroupedTerms, group: u64, address: &Address) -> bool
         requires grouped { HasSharingGroup terms.now }
         requires number { number_for self.now.room.groups terms.now ≡ Some group }
-        ensures { result ≡ list_all (belongs key.now terms.now address.now) (values_of self.now.items) }
+        ensures { result ≡ list_all (belongs key.now terms.now address.now)
+            (values_of self.now.items) }
     {
         let slot = NumberedSlot::OfSharingGroup(group);
         let all = self.holders.numbers(&NumberedSlot::Any, address).len();
@@ -211,10 +223,12 @@ impl ClaimIndex {
         all.saturating_sub(grouped) == count_odd(&self.claims, own, terms.terms(), address)
     }
 
-    /// Whether each claim of the terms' group, which has this number, that has the address and a port of theirs is of the key.
+    /// Whether each claim of the terms' group, which has this number, that has the address and a
+    /// port of theirs is of the key.
     fn all_yield(&self, key: &Key, terms: &GroupedTerms, group: u64, address: &Address) -> bool
         requires { number_for self.now.room.groups terms.now ≡ Some group }
-        ensures { result ≡ list_all (yields_port (values_of self.now.items) key.now terms.now address.now) terms.now.ports }
+        ensures { result ≡ list_all (yields_port
+            (values_of self.now.items) key.now terms.now address.now) terms.now.ports }
     {
         terms
             .terms()
@@ -224,7 +238,8 @@ impl ClaimIndex {
             .all(|port| self.yields_slot(key, terms, *port, group, address))
     }
 
-    /// Whether each claim of the terms' group, which has this number, that has the address and the port is of the key.
+    /// Whether each claim of the terms' group, which has this number, that has the address and the
+    /// port is of the key.
     fn yields_slot(
         &self,
         key: &Key,
@@ -234,7 +249,8 @@ impl ClaimIndex {
         address: &Address,
     ) -> bool
         requires { number_for self.now.room.groups terms.now ≡ Some group }
-        ensures { result ≡ yields_port (values_of self.now.items) key.now terms.now address.now port }
+        ensures { result ≡ yields_port
+            (values_of self.now.items) key.now terms.now address.now port }
     {
         let slot = NumberedSlot::OfPort { port, group };
         let claims = &self.claims;
@@ -246,7 +262,8 @@ impl ClaimIndex {
 
     /// The same as `all_leave`, by each claim on the address.
     fn all_give_way(&self, key: &Key, terms: &Terms, address: &Address) -> bool
-        ensures { result ≡ list_all (leaves key.now terms.now address.now) (values_of self.now.items) }
+        ensures { result ≡ list_all (leaves key.now terms.now address.now)
+            (values_of self.now.items) }
     {
         let claims = &self.claims;
         self.holders
@@ -255,8 +272,8 @@ impl ClaimIndex {
             .all(|number| gives_way(claims, *number, key, terms))
     }
 
-    /// The least number from low to high of an address of the family that no claim has, and that isn't a buggy one where those are
-    /// avoided; in the logarithm of the number of addresses.
+    /// The least number from low to high of an address of the family that no claim has, and that
+    /// isn't a buggy one where those are avoided; in the logarithm of the number of addresses.
     pub fn first_unclaimed(
         &self,
         avoiding: bool,
@@ -264,16 +281,19 @@ impl ClaimIndex {
         low: u128,
         high: u128,
     ) -> Option<u128>
-        ensures some { IfSome result (λ n. IsLeastIn (λ m. is_open avoiding Any (values_of self.now.items) (address_of family m)) low high n) }
-        ensures none { IfNone result (NonePasses (λ m. is_open avoiding Any (values_of self.now.items) (address_of family m)) low high) }
+        ensures some { IfSome result (λ n. IsLeastIn
+            (λ m. is_open avoiding Any (values_of self.now.items) (address_of family m)) low high
+            n) }
+        ensures none { IfNone result (NonePasses
+            (λ m. is_open avoiding Any (values_of self.now.items) (address_of family m)) low high) }
     {
         self.holders
             .first_unclaimed(&NumberedSlot::Any, avoiding, family, low, high)
     }
 
-    /// A number from low to high before which no address of the family is one that claims of the terms' group have and none of these
-    /// with a port of theirs; `None` where none up to high is. For each port it takes the square of the logarithm of
-    /// the number of addresses.
+    /// A number from low to high before which no address of the family is one that claims of the
+    /// terms' group have and none of these with a port of theirs; `None` where none up to high is.
+    /// For each port it takes the square of the logarithm of the number of addresses.
     pub fn first_shareable(
         &self,
         family: Family,
@@ -282,8 +302,10 @@ impl ClaimIndex {
         high: u128,
     ) -> Option<u128>
         requires { is_nil terms.now.key ≡ false }
-        ensures some { IfSome result (λ n. (low ≤ n) × (n ≤ high) × NoneShareable family terms.now (values_of self.now.items) low n) }
-        ensures none { IfNone result (NoneShareable family terms.now (values_of self.now.items) low (high + 1)) }
+        ensures some { IfSome result (λ n. (low ≤ n) × (n ≤ high)
+            × NoneShareable family terms.now (values_of self.now.items) low n) }
+        ensures none { IfNone result (NoneShareable family terms.now (values_of self.now.items) low
+            (high + 1)) }
     {
         let group = self.groups.number(terms)?;
         let all = NumberedSlot::OfSharingGroup(group);
@@ -304,7 +326,8 @@ fn first_but(numbers: &[u64], number: u64) -> Option<u64>
 
 /// Whether the claim of that number is of this one's record and terms.
 fn is_claim_under(claims: &NumberedList<Claim>, number: u64, claim: &Claim) -> bool
-    ensures value { result ≡ is_claim_under claim.now.holding claim.now.terms (lookup (λ n. n == number) claims.now.items) }
+    ensures value { result ≡ is_claim_under claim.now.holding claim.now.terms
+        (lookup (λ n. n == number) claims.now.items) }
     ensures ascending { IsStrictlySortedBy nat_cmp (keys_of claims.now.items) }
 {
     match claims.get(number) {
@@ -316,7 +339,8 @@ fn is_claim_under(claims: &NumberedList<Claim>, number: u64, claim: &Claim) -> b
 }
 
 fn gives_way(claims: &NumberedList<Claim>, number: u64, key: &Key, terms: &Terms) -> bool
-    ensures value { result ≡ gives_way key.now terms.now (lookup (λ n. n == number) claims.now.items) }
+    ensures value { result ≡ gives_way key.now terms.now
+        (lookup (λ n. n == number) claims.now.items) }
     ensures ascending { IsStrictlySortedBy nat_cmp (keys_of claims.now.items) }
 {
     let Some(claim) = claims.get(number) else {
@@ -342,8 +366,11 @@ fn count_odd(
     terms: &Terms,
     address: &Address,
 ) -> usize
-    ensures count { result ≡ length (filter (λ n. is_odd terms.now address.now (lookup (λ m. m == n) claims.now.items)) numbers.now) }
-    ensures ascending { is_nil numbers.now ≡ false → IsStrictlySortedBy nat_cmp (keys_of claims.now.items) }
+    ensures count { result ≡ length
+        (filter (λ n. is_odd terms.now address.now (lookup (λ m. m == n) claims.now.items))
+        numbers.now) }
+    ensures ascending { is_nil numbers.now ≡ false
+        → IsStrictlySortedBy nat_cmp (keys_of claims.now.items) }
 {
     let mut count = 0;
     for number in numbers {
@@ -356,7 +383,8 @@ fn count_odd(
 
 /// Whether the claim of that number has the address under terms that aren't alike with these.
 fn is_odd(claims: &NumberedList<Claim>, number: u64, terms: &Terms, address: &Address) -> bool
-    ensures value { result ≡ is_odd terms.now address.now (lookup (λ n. n == number) claims.now.items) }
+    ensures value { result ≡ is_odd terms.now address.now
+        (lookup (λ n. n == number) claims.now.items) }
     ensures ascending { IsStrictlySortedBy nat_cmp (keys_of claims.now.items) }
 {
     match claims.get(number) {

@@ -11,7 +11,8 @@ use crate::slots::{slot_at, slots_with};
 use address_holders::{AddressHolders, NumberedSlot};
 use ip_ranges::Address;
 
-/// The claim of that number isn't listed at its addresses any more, in no slot, where its group has this number. It takes no memory.
+/// The claim of that number isn't listed at its addresses any more, in no slot, where its group has
+/// this number. It takes no memory.
 pub(crate) fn remove_claim(
     holders: &mut AddressHolders,
     claim: &Claim,
@@ -19,7 +20,8 @@ pub(crate) fn remove_claim(
     number: u64,
 )
     ensures numbers { (slot : NumberedSlot) → claims_having holders.new slot
-        ≡ (if is_slot_by group claim.now.terms.ports slot then left_at number claim.now.holding.addresses (claims_having holders.old slot)
+        ≡ (if is_slot_by group claim.now.terms.ports slot
+        then left_at number claim.now.holding.addresses (claims_having holders.old slot)
         else claims_having holders.old slot) }
 {
     let addresses = claim.addresses();
@@ -38,8 +40,10 @@ fn remove_each(
     addresses: &[Address],
     number: u64,
 )
-    ensures numbers { claims_having holders.new slot.now ≡ left_at number addresses.now (claims_having holders.old slot.now) }
-    ensures others { (s : NumberedSlot) → same_slot slot.now s ≡ false → in_slot holders.new s ≡ in_slot holders.old s }
+    ensures numbers { claims_having holders.new slot.now
+        ≡ left_at number addresses.now (claims_having holders.old slot.now) }
+    ensures others { (s : NumberedSlot) → same_slot slot.now s ≡ false
+        → in_slot holders.new s ≡ in_slot holders.old s }
 {
     for address in addresses {
         holders.remove(slot, address, number);

@@ -5,8 +5,9 @@ ghost use Rattle.claim_index.specs.GroupSlots.{slots_by};
 use address_holders::NumberedSlot;
 use kube_model::Port;
 
-/// The slot at the index among those in which a claim with these ports is listed, where its group has this number: the list of all
-/// claims comes first, then that of its group, then those of the ports.
+/// The slot at the index among those in which a claim with these ports is listed, where its group
+/// has this number: the list of all claims comes first, then that of its group, then those of the
+/// ports.
 pub(crate) fn slot_at(group: Option<u64>, ports: &[Port], index: usize) -> Option<NumberedSlot>
     ensures { result ≡ slice_get (slots_by group ports.now) index }
 {

@@ -1,4 +1,4 @@
--- What stands ahead of the first element that passes, and what stands behind it.
+-- What stands ahead of the first element that passes, and what stands after it.
 use Rattle.std.proofs.Common.{◌≡◌, ℕ, suc, ◌+◌, ◌<◌, ◌≤◌, Bool, true, false, cond, not, List, [], ◌∷◌, ◌++◌, length, map, take, drop, refl, ap, ◌∙◌, arith}
 use Rattle.std.proofs.Math.Seq.{take-append_seam, take-length, drop-append-add}
 use Rattle.std.proofs.Math.ListN.{drop_of_length-le}

@@ -32,7 +32,7 @@ given-by (Some first) (Some second) lanes e = (by-bytes first second lanes (byte
 pub given-lanes : (g : LanesGiven) (lanes : Option LaneNames) → lanes_of g ≡ Some lanes → g ≡ given_lanes lanes
 given-lanes g lanes e = given-by g.first g.second lanes e
 
--- behind nothing, the options of these names give the files
+-- after nothing, the options of these names give the files
 abbrev pub GiveLanes : List ℕ → List ℕ → List CommandOption → Option LaneNames → Type 0
 GiveLanes first second options lanes =
     (folded (once text_of) (values_of first options) None ≡ Some (given_lanes lanes).first)

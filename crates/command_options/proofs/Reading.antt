@@ -10,7 +10,7 @@ use Rattle.command_options.proofs.Firsts.{before-cons, after-cons}
 use Rattle.command_options.specs.Options.{has_equals, first_of, with_option, options_in, OptionsAreRead}
 
 -- ---- a text round its first `=`
--- The text is the part before it, `=`, and the part behind it.
+-- The text is the part before it, `=`, and the part after it.
 record Splits (text : List ℕ) : Type 0 where
   joined : text ≡ before_first is_equals text ++ 61 ∷ after_first is_equals text
   lacks : AllByRecursion (λ c. c ≢ 61) (before_first is_equals text)
@@ -179,7 +179,7 @@ two_first : (b : Bool) (word value : List ℕ) (rest : List (List ℕ)) → has_
 two_first true word value rest t = rw t (with-first (is_given (value_in word)) (name_in word) (value_in word) (value ∷ rest))
 two_first false word value rest t = rw t (with-first (is_value value) word value rest)
 
--- words are read as their first option and what the words behind it are read as
+-- words are read as their first option and what the words after it are read as
 pub read-first : (word : List ℕ) (words : List (List ℕ)) → options_in (word ∷ words) ≡ behind (first_of (word ∷ words))
 read-first word [] = one_first (has_equals word) word refl
 read-first word (value ∷ rest) = two_first (has_equals word) word value rest refl

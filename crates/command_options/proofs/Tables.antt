@@ -24,7 +24,7 @@ pub values-other : (other name value : List ℕ) (options : List CommandOption) 
 values-other other name value options differ = rw differ refl
 
 -- ---- options of known names
--- the option has this name, or is taken behind
+-- the option has this name, or is taken after
 pub named-or : {G P : Type 0} (name known : List ℕ) (taken behind : Option G) (h : G) → (behind ≡ Some h → P) → cond (bytes_eq name known) taken behind ≡ Some h
     → (name ≡ known) ⊎ P
 named-or {G} {P} name known taken behind h later e = by (bytes_eq name known) refl e where
@@ -61,11 +61,11 @@ module _ {G I : Type 0} {A : I → Type 0} (Is : CommandOption → Type 0) (step
     pub others : (i : I) (a : A i) (g : G) → AllByRecursion (Keeps i a g) all
     pub same : (g h : G) → ((i : I) → part i g ≡ part i h) → g ≡ h
 
-  -- behind what was given in the part i, the option's values give this
+  -- after what was given in the part i, the option's values give this
   abbrev pub Part : List CommandOption → G → G → I → Type 0
   Part options g h i = folded (take i) (values_of (name i) options) (part i g) ≡ Some (part i h)
 
-  -- Behind what was given, the options give this.
+  -- After what was given, the options give this.
   pub record Gives (options : List CommandOption) (g h : G) : Type 0 where
     pub known : AllByRecursion Is options
     pub parts : (i : I) → Part options g h i

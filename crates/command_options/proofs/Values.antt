@@ -112,14 +112,14 @@ module _ {G : Type 0} (step : List ℕ → List ℕ → G → Option G) where
   none-behind None = refl
   none-behind (Some g) = refl
 
-  -- the first option is taken, and the others behind it
+  -- the first option is taken, and the others after it
   next-taken : (found : Option (List CommandOption)) (o : CommandOption) (g : G)
       → option_and_then (λ options. taken_by step options g) (option_map (λ more. o ∷ more) found)
       ≡ option_and_then (λ h. option_and_then (λ options. taken_by step options h) found) (step o.name o.value g)
   next-taken None o g = sym (none-behind (step o.name o.value g))
   next-taken (Some options) o g = refl
 
-  -- the words give what those behind the first option give to what is given with it
+  -- the words give what those after the first option give to what is given with it
   goes-by : (words : List (List ℕ)) (first : First) (g : G) → first_of words ≡ Some first
       → taken_in step words g ≡ option_and_then (taken_in step first.rest) (step first.option.name first.option.value g)
   goes-by [] first g is = absurd (cc)

@@ -23,13 +23,13 @@ abbrev pub is_value : List ℕ → Bool
 is_value [] = false
 is_value (c ∷ text) = not (c == 45)
 
--- the words begin with the option, in one word or in two, and these are behind it
+-- the words begin with the option, in one word or in two, and these are after it
 abbrev pub BeginWith : CommandOption → List (List ℕ) → List (List ℕ) → Type 0
 BeginWith o rest words =
     ((words ≡ (o.name ++ 61 ∷ o.value) ∷ rest) × (is_given o.value ≡ true))
     ⊎ ((words ≡ o.name ∷ o.value ∷ rest) × (is_value o.value ≡ true))
 
--- the words are these options, one behind the other; no name has a `=`
+-- the words are these options, one after the other; no name has a `=`
 abbrev pub AreOptions : List CommandOption → List (List ℕ) → Type 0
 AreOptions [] words = words ≡ []
 AreOptions (o ∷ options) words =
@@ -42,7 +42,7 @@ is_equals c = c == 61
 abbrev pub has_equals : List ℕ → Bool
 has_equals word = nat_lt (position_or_len is_equals word) (length word)
 
--- an option, and the words behind it
+-- an option, and the words after it
 pub record First : Type 0 where
   pub option : CommandOption
   pub rest : List (List ℕ)

@@ -1,4 +1,4 @@
--- The values of options, and what options give one behind the other.
+-- The values of options, and what options give one after the other.
 use Rattle.std.specs.Prelude.{ℕ, List, [], ◌∷◌, map, filter, Option, Some, None, option_and_then}
 use Rattle.std.specs.Option.{option_map}
 use Rattle.std.specs.Str.{bytes_eq}
@@ -17,11 +17,11 @@ once read value (Some held) = None
 abbrev pub text_of : List ℕ → Option (List ℕ)
 text_of value = Some value
 
--- what the options give behind what was given, where each name and value is taken by the step
+-- what the options give after what was given, where each name and value is taken by the step
 abbrev pub taken_by : {G : Type 0} → (List ℕ → List ℕ → G → Option G) → List CommandOption → G → Option G
 taken_by step [] g = Some g
 taken_by step (o ∷ options) g = option_and_then (taken_by step options) (step o.name o.value g)
 
--- what the words give behind what was given
+-- what the words give after what was given
 abbrev pub taken_in : {G : Type 0} → (List ℕ → List ℕ → G → Option G) → List (List ℕ) → G → Option G
 taken_in step words g = option_and_then (λ options. taken_by step options g) (options_in words)

@@ -1,7 +1,8 @@
 //! The files that options name for two lanes.
 ghost use Rattle.std.specs.Prelude.{◌≡◌};
 ghost use Rattle.std.specs.Option.{option_map};
-ghost use Rattle.command_options.specs.Lanes.{lanes_by, no_lanes, with_first, with_second, lane_seen, given_seen};
+ghost use Rattle.command_options.specs.Lanes.{lanes_by, no_lanes, with_first, with_second};
+ghost use Rattle.command_options.specs.Lanes.{lane_seen, given_seen};
 
 use crate::taking::once_text;
 
@@ -42,7 +43,8 @@ impl<'a> GivenLanes<'a> {
 
     /// The second lane's file is given too, where it wasn't.
     pub fn with_second(self, name: &'a str) -> Option<Self>
-        ensures given { option_map given_seen result ≡ with_second name.now (given_seen self.entry) }
+        ensures given { option_map given_seen result
+            ≡ with_second name.now (given_seen self.entry) }
     {
         Some(GivenLanes {
             second: Some(once_text(self.second, name)?),
@@ -51,7 +53,8 @@ impl<'a> GivenLanes<'a> {
     }
 }
 
-/// The files of two lanes, where both are named and the names differ, or none is. `None` where one alone is named, or both have one name.
+/// The files of two lanes, where both are named and the names differ, or none is. `None` where one
+/// alone is named, or both have one name.
 pub fn lane_files<'a>(
     first: Option<&'a str>,
     second: Option<&'a str>,

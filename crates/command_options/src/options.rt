@@ -4,7 +4,7 @@ ghost use Rattle.std.specs.Option.{option_map};
 ghost use Rattle.command_options.specs.Options.{texts_of, first_of, joined_first, apart_first};
 ghost use Rattle.command_options.specs.Seen.{seen};
 
-/// An option, and the words behind it.
+/// An option, and the words after it.
 #[derive(Clone, Copy)]
 pub struct FirstOption<'a> {
     pub name: &'a str,
@@ -13,8 +13,9 @@ pub struct FirstOption<'a> {
     pub rest: &'a [String],
 }
 
-/// The first option of the words: `NAME=VALUE` in one word, which is split at its first `=`, or `NAME` and `VALUE` in two words,
-/// where the value doesn't begin with `-`. A value isn't empty. `None` where the words don't begin so. It takes no memory.
+/// The first option of the words: `NAME=VALUE` in one word, which is split at its first `=`, or
+/// `NAME` and `VALUE` in two words, where the value doesn't begin with `-`. A value isn't empty.
+/// `None` where the words don't begin so. It takes no memory.
 pub fn first_option(words: &[String]) -> Option<FirstOption<'_>>
     ensures first { option_map seen result ≡ first_of (texts_of words.now) }
     ensures shorter { IfSome result (λ o. length o.rest.now < length words.now) }

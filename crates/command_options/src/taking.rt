@@ -1,4 +1,4 @@
-//! What options say, taken one behind the other.
+//! What options say, taken one after the other.
 ghost use Rattle.std.specs.Prelude.{◌≡◌, ℕ, List, Option, Some};
 ghost use Rattle.std.specs.Option.{option_map};
 ghost use Rattle.command_options.specs.Options.{texts_of};
@@ -21,8 +21,8 @@ pub trait TakesOptions<'a>: Sized {
         ensures taken { option_map said result ≡ step name.now value.now (said self) };
 }
 
-/// What is said once the options that the words are have been taken, one behind the other. `None` where the words aren't options, or where
-/// one can't be taken. It takes no memory of its own.
+/// What is said once the options that the words are have been taken, one after the other. `None`
+/// where the words aren't options, or where one can't be taken. It takes no memory of its own.
 pub fn taken_options<'a, G: TakesOptions<'a> + Drop>(words: &'a [String], given: G) -> Option<G>
     ensures taken { option_map G.said result ≡ taken_in G.step (texts_of words.now) (G.said given) }
 {
@@ -38,7 +38,8 @@ pub fn taken_options<'a, G: TakesOptions<'a> + Drop>(words: &'a [String], given:
 
 /// The value of an option that stands at most once. `None` where one was held.
 pub fn once_text<'a>(held: Option<&str>, value: &'a str) -> Option<&'a str>
-    ensures once { option_map (λ t. Some t.now) result ≡ once text_of value.now (option_map (λ t. t.now) held.entry) }
+    ensures once { option_map (λ t. Some t.now) result
+        ≡ once text_of value.now (option_map (λ t. t.now) held.entry) }
 {
     match held {
         Some(_) => None,

@@ -125,7 +125,7 @@ others-then others lines (Some put) all end = (
   all-append IsOther others end.0 all end.2,
 )
 
--- turns end with the put that is out behind them
+-- turns end with the put in flight after them
 turns-end : (queue : List Key) (s : State) → s.out ≡ None → EndWith (lines_in (turns queue s).entries) (turns queue s).core.out
 turns-end [] s none = subst (EndWith []) (sym none) tt
 turns-end (key ∷ keys) s none = by-turn (λ none'. turns-end keys (after_turn s) none') (core_turn s) refl
@@ -169,7 +169,7 @@ turns-seen (key ∷ keys) s run whole = by-turn (λ r is. turns-seen keys (after
 abbrev pub bytes_of : List Line → List (List ℕ)
 bytes_of lines = map (λ (line : Line). line.bytes) lines
 
--- where a put is out, a turn wanted it last
+-- where a put is in flight, a turn wanted it last
 record LastWants (run : List CoreEntry) (put : Put) : Type 0 where
   pending : Option Reason
   earlier : List CoreEntry
@@ -198,7 +198,7 @@ module _ (class : Option (List ℕ)) where
       subst (λ (r : List CoreEntry). seen_of (HeardByCore reply ∷ r) ≡ Answered reply ∷ Wrote put ∷ seen_so_far r) (sym last.is) refl
 
   -- ---- one that is taken
-  -- What was read is seen so, what was told of it may end with a put that is out then, and that is what is seen of all that was told.
+  -- What was read is seen so, what was told of it may end with a put in flight then, and that is what is seen of all that was told.
   pub record Exchanges {X : Type 0} (IsReadAs : Option Put → X → List Seen → Type 0) (x : X) (s next : State) (entries told : List TranscriptEntry) : Type 0 where
     pub read : List Seen
     pub is_read : IsReadAs s.out x read
@@ -307,7 +307,7 @@ module _ (class : Option (List ℕ)) where
   line-exchanged (Some put) s next line entries told out e leads =
       reply-line IsRead line.bytes put s next line entries told out (λ reply is. (reply, is, refl)) (reply_of put line.bytes) refl e leads
 
-  -- exchanges of these, which are safe behind what was told
+  -- exchanges of these, which are safe after what was told
   pub record Talk {X : Type 0} (IsReadAs : Option Put → X → List Seen → Type 0) (read : List X) (text : List ℕ) (out : Option Put) (seen : List Seen)
       : Type 0 where
     pub exchanges : List (Exchange X)

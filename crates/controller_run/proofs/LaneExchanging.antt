@@ -54,7 +54,7 @@ abbrev answers_in : List LaneExchange → List (List ℕ)
 answers_in exchanges = flat_map (λ (e : LaneExchange). line_in e.read) exchanges
 
 module _ (class : Option (List ℕ)) where
-  -- exchanges of these events and replies, which are safe behind what was told, and then these
+  -- exchanges of these events and replies, which are safe after what was told, and then these
   record LaneTalk (items : List Item) (replies : List (List ℕ)) (text : List ℕ) (out : Option Put) (seen : List Seen) : Type 0 where
     exchanges : List LaneExchange
     items_are : items_in exchanges ≡ items
@@ -95,7 +95,7 @@ module _ (class : Option (List ℕ)) where
   answered_by (Some put) s next line entries told out waits e leads =
       reply-line class IsLaneRead (Replied line.bytes) put s next line entries told out (λ reply is. (reply, is, refl)) (reply_of put line.bytes) refl e leads
 
-  -- what is said behind the replies
+  -- what is said after the replies
   abbrev Then : List Item → List (List ℕ) → List ℕ → List TranscriptEntry → State → Type 0
   Then items replies text told s = LaneTalk items replies text s.out (seen_so_far (behind told []))
 

@@ -64,7 +64,7 @@ module _ (class : Option (List ℕ)) where
   heard_lines (line ∷ lines) s t entries (next, first, rest, waits, hears, more, is) =
       (next, first, rest, hears, heard_lines lines next t rest more, is)
 
-  -- an item that is taken, with the replies behind it
+  -- an item that is taken, with the replies after it
   one_leads : (item : Item) (replies : List Line) (s t : State) (entries told : List TranscriptEntry) → IsRead belongs_to item
       → IsTaken lane_rules item replies s t entries
       → LeadsTo class told s → LeadsTo class (told ++ entries) t

@@ -136,7 +136,7 @@ module _ (class : Option (List ℕ)) where
   at_ending (LongLine number) s e = absurd (cc)
   at_ending LongInput s e = absurd (cc)
 
-  -- a run that is done stops where no put is out
+  -- a run that is done stops where no put is in flight
   done_in : (s : State) → StopsIn controller_rules s Done → s.out ≡ None
   done_in s (inl ended) = at_ending ended.0 s ended.1
   done_in s (inr stopped) = absurd ((line_causes s stopped.0 Done stopped.1).0)

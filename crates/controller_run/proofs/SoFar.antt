@@ -1,4 +1,4 @@
--- However far a run has come: what was told is sound and safe, and where no put is out nothing is left waiting.
+-- However far a run has come: what was told is sound and safe, and where no put is in flight nothing is left waiting.
 use Rattle.std.proofs.Common.{ℕ, List, [], ◌∷◌, ◌++◌, Option, refl, subst, append_assoc}
 use Rattle.std.proofs.lemmas.List.{append-nil}
 use Rattle.core_drive.proofs.Goes.{begins_fresh, drives_are_sound}

@@ -110,7 +110,7 @@ put_unanswered : (o : Option Put) → is_some o ≡ true → (put : Put) × (end
 put_unanswered None waits = absurd (cc)
 put_unanswered (Some put) waits = (put, refl)
 
--- where a reply is awaited it is that to the put that is out
+-- where a reply is awaited it is that to the put in flight
 pub awaits_reply : (s : State) → is_some s.out ≡ true → (put : Put) × (end_of s.out ≡ NoReply put)
 awaits_reply s waits = put_unanswered s.out waits
 

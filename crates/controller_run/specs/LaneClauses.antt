@@ -39,9 +39,9 @@ OverLanes words Owes = (class : Option (List ℕ)) (files : LaneNames) → AskLa
 -- the input may be asked for more wherever all that was taken is answered, with all replies that came, and a reply is awaited or both lanes have ended
 abbrev pub LanesMayAsk : {S K : Type 0} → (List ℕ → Option (List ℕ)) → (List ℕ → Bool) → (name left : S → Option (List ℕ)) (reads : S → ℕ)
     → (S → Reading → K → Type 0) → (written : K → Option (List ℕ)) (writes : K → ℕ) → S → K → Option (List ℕ) → LaneNames → Type 0
-LanesMayAsk bytes safe name left reads may_read written writes input out class files =
+LanesMayAsk bytes unfailing name left reads may_read written writes input out class files =
     MayBeAsked name may_read input (λ source reader out'. AsksMore belongs_to lane_rules (fresh class)
-    (lane_state (bytes files.first) (Some files.first) 0 (safe files.first)) (lane_state (bytes files.second) (Some files.second) 0 (safe files.second))
+    (lane_state (bytes files.first) (Some files.first) 0 (unfailing files.first)) (lane_state (bytes files.second) (Some files.second) 0 (unfailing files.second))
     (outside lanes.unread (source_state (left input) (name input) (reads input)) (written out) (writes out))
     (outside reader (source_state (left source) (name source) (reads source)) (written out') (writes out')))
 
@@ -51,7 +51,7 @@ abbrev pub LanesMayWait : {R K : Type 0} → (R → List Item → K → Type 0) 
 LanesMayWait may_wait rt replies written writes out class files =
     MayBeAwaited may_wait rt written (AnswersAll lane_rules (fresh class) (outside lanes.unread replies (written out) (writes out)))
 
--- what the files still give may be dropped wherever the run stopped at the last item taken, or at a reply behind it
+-- what the files still give may be dropped wherever the run stopped at the last item taken, or at a reply after it
 abbrev pub LanesMayDrop : {R K : Type 0} → (R → List Item → K → Type 0) → R → (replies : SourceState) (written : K → Option (List ℕ)) (writes : K → ℕ) → K
     → Option (List ℕ) → LaneNames → Type 0
 LanesMayDrop may_drop rt replies written writes out class files =
@@ -65,9 +65,9 @@ LanesMayOpen may_open Opens unopened class files = MayBeOpened may_open Opens un
 abbrev pub LanesEnd : (List ℕ → Option (List ℕ)) → (List ℕ → Bool)
     → (files files' : FilesState) (replies replies' : SourceState) (before after : Option (List ℕ))
     (writes writes' : ℕ) → Status → Option (List ℕ) → LaneNames → Type 0
-LanesEnd bytes safe opened opened' replies replies' before after writes writes' status class files =
+LanesEnd bytes unfailing opened opened' replies replies' before after writes writes' status class files =
     lanes.AtEnd belongs_to lane_rules (fresh class) files.first files.second opened opened'
-    (lane_state (bytes files.first) (Some files.first) 0 (safe files.first)) (lane_state (bytes files.second) (Some files.second) 0 (safe files.second))
+    (lane_state (bytes files.first) (Some files.first) 0 (unfailing files.first)) (lane_state (bytes files.second) (Some files.second) 0 (unfailing files.second))
     replies replies' before after writes writes' status
 
 -- where it is done all that both files carry was taken, with all lines of the input as the replies, and just its text was written
@@ -81,7 +81,7 @@ LanesAreWatches = (lane : Lane) (group : ListGroup) → group ≢ groups.Endpoin
 
 -- A beginning of the text of some items was written, of each file a beginning of what it carries, with the first lines of the input as the
 -- replies; and what was told of them is sound, and safe in every world that explains it, which settles when it is left alone, and along it addresses stay. So
--- it is behind each beginning of them that is taken, with whatever replies, and where no put is out behind it nothing is left waiting.
+-- it is behind each beginning of them that is taken, with whatever replies, and where no put is in flight after it nothing is left waiting.
 pub record TellsSound (first second replies before after class : Option (List ℕ)) : Type 0 where
   pub written : lanes.OnlyWrites belongs_to lane_rules (fresh class) first second replies before after
   pub sound : IsSound class (entries_of written.told)
@@ -111,8 +111,8 @@ abbrev pub LanesQuiet : (List ℕ → Option (List ℕ)) → Status → (left le
 LanesQuiet bytes status left left' before after class files =
     status ≡ Done → LeavesServed (bytes files.first) (bytes files.second) left left' before after class
 
--- where each line of both files can be taken, in whatever order the events of both come, with a reply to each put and no line behind the last,
--- and no count of faults rises, the run is done, but for want of memory
+-- where each line of both files can be taken, in whatever order the events of both come, with a reply to each put and no line after the last,
+-- and no count of faults rises, the run is done, unless memory runs out
 abbrev pub LanesComplete : (List ℕ → Option (List ℕ)) → Status → (files files' : FilesState) (replies : Option (List ℕ)) (reads reads' writes writes' : ℕ)
     → Option (List ℕ) → LaneNames → Type 0
 LanesComplete bytes status before after replies reads reads' writes writes' class files =

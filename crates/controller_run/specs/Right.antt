@@ -12,7 +12,7 @@ use Rattle.controller_run.specs.Sound.{IsSafeThroughout, SettlesThroughout, Keep
 use Rattle.controller_run.specs.Stream.{controller_rules}
 
 -- The transcript of the run of these lines is sound, and safe in every world that explains it, which settles when it is left alone, and along it addresses
--- stay; and so it is, behind each beginning of them that is taken, with what was told so far, which leaves nothing waiting where no put is out.
+-- stay; and so it is, after each beginning of them that is taken, with what was told so far, which leaves nothing waiting where no put is in flight.
 pub record IsRightRun (class : Option (List ℕ)) (lines : List Line) : Type 0 where
   pub sound : IsSound class (run_from controller_rules lines Whole (fresh class)).entries
   pub safe : IsSafeThroughout class (run_from controller_rules lines Whole (fresh class)).entries

@@ -16,7 +16,7 @@ use Rattle.line_run.specs.RunOutput.{StopsOn}
 use Rattle.controller_run.specs.Stream.{controller_rules}
 
 -- In every world that explains a beginning of the transcript the core is the transcript's, and services recorded with one address share it by
--- their marks, before and behind each move of the world, and also where a last put that has no reply yet reaches the store. So it is in every
+-- their marks, before and after each move of the world, and also where a last put that has no reply yet reaches the store. So it is in every
 -- cluster of many controllers that explains it as the transcript of one.
 abbrev pub IsSafeThroughout : Option (List ℕ) → List TranscriptEntry → Type 0
 IsSafeThroughout class transcript =

@@ -1,4 +1,4 @@
--- What a line is to the controller: a reply where a put is out, and else an event.
+-- What a line is to the controller: a reply where a put is in flight, and else an event.
 use Rattle.std.specs.Prelude.{◌≡◌, ℕ, ◌+◌, if◌then◌else◌, Option, Some, None, Result, Ok, Err, is_err, ⊤, true}
 use Rattle.kube_model.specs.declared.event.Event.{Event}
 use Rattle.kube_model.specs.declared.event.EventFault.{EventFault}
@@ -48,7 +48,7 @@ abbrev pub event_step : State → Line → Result Event EventFault → Transitio
 event_step s line (Err fault) = Stops (BadLine lanes.Input line.number line.bytes)
 event_step s line (Ok event) = arrival s event
 
--- it is no reply to the put that is out, or the reply arrives
+-- it is no reply to the put in flight, or the reply arrives
 abbrev pub reply_step : State → Line → Option PutReply → Transition State TranscriptEntry
 reply_step s line None = Stops (BadReply line.number line.bytes)
 reply_step s line (Some reply) = goes_by (hearing s reply)
@@ -61,7 +61,7 @@ step_where (Some put) s line = reply_step s line (reply_of put line.bytes)
 abbrev pub line_step : State → Line → Transition State TranscriptEntry
 line_step s line = step_where s.out s line
 
--- the input ends: the run is done, or the put that is out has no reply
+-- the input ends: the run is done, or the put in flight has no reply
 abbrev pub end_of : Option Put → Status
 end_of None = Done
 end_of (Some put) = NoReply put

@@ -13,17 +13,18 @@ use mlb_edge::{Line, Sink};
 use program_exit::owned_word;
 use std::alloc::Global;
 
-/// Drives a core by lines: each is an event, or the reply to the put that is out.
+/// Drives a core by lines: each is an event, or the reply to the put in flight.
 #[derive(Drop)]
 pub(crate) struct Controller {
     pub(crate) core: Core,
 }
 
 impl Controller {
-    /// A controller whose core holds nothing. It handles the services of the class, or those without
-    /// one.
+    /// A controller whose core holds nothing. It handles the services of the class, or those
+    /// without one.
     pub(crate) fn new(alloc: Global, class: Option<&str>) -> Result<Controller, NoMemory>
-        ensures { IfOk result (λ controller. controller.core ≡ fresh (option_map (λ c. c.now) class.entry)) }
+        ensures { IfOk result (λ controller. controller.core
+            ≡ fresh (option_map (λ c. c.now) class.entry)) }
     {
         Ok(Controller {
             core: Core::new(alloc, owned_word(alloc, class)?)?,

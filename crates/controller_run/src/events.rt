@@ -49,7 +49,8 @@ pub(crate) fn tell<K: Sink>(
     ensures core { OnOk result (core.new ≡ (turns_from core.old).core) }
     ensures ok { OnOk result (Grows (K.written out.old) (K.written out.new)
         (note_text note.now ++ output_of (turns_from core.old).entries)) }
-    ensures err { IfErr result (λ halt. Halts halt (note_text note.now ++ output_of (turns_from core.old).entries)
+    ensures err { IfErr result (λ halt. Halts halt
+        (note_text note.now ++ output_of (turns_from core.old).entries)
         (K.written out.old) (K.written out.new) (K.faults out.old) (K.faults out.new)) }
     ensures later { K.faults out.old ≤ K.faults out.new }
 {

@@ -1,10 +1,12 @@
-//! The controller, as a machine over the items of two lanes: the objects of the configuration, and the services.
+//! The controller, as a machine over the items of two lanes: the objects of the configuration, and
+//! the services.
 ghost use Rattle.std.specs.Prelude.{◌≡◌, ◌≤◌, ◌++◌, OnOk, IfOk, IfErr, None};
 ghost use Rattle.core_drive.specs.Drive.{turns_from};
 ghost use Rattle.kube_lines.specs.OutputLines.{took_text};
 ghost use Rattle.lane_drive.specs.LaneRules.{TakesItem, RefusesItem};
 ghost use Rattle.line_run.specs.Text.{Halts, line_of};
-ghost use Rattle.controller_run.specs.Lanes.{group_in, carries, name_of, lane_group, lane_arrival, lane_rules};
+ghost use Rattle.controller_run.specs.Lanes.{group_in, carries, name_of, lane_group, lane_arrival};
+ghost use Rattle.controller_run.specs.Lanes.{lane_rules};
 ghost use Rattle.controller_run.specs.Output.{output_of};
 ghost use Rattle.controller_run.specs.Stream.{Enters, IsUntaken};
 ghost use Rattle.mlb_edge.specs.Written.{Grows};
@@ -37,7 +39,8 @@ impl Lanes for Controller {
 impl LaneMachine for Controller {
     ghost use Rattle.core_drive.specs.Drive.{TranscriptEntry as DriveEntry};
     ghost use Rattle.core_rules.specs.Core.{State as CoreState};
-    ghost use Rattle.controller_run.specs.Causes.{items_stop, replies_stop, awaits_reply, lanes_are_taken, names_differ, heard_replies};
+    ghost use Rattle.controller_run.specs.Causes.{items_stop, replies_stop, awaits_reply};
+    ghost use Rattle.controller_run.specs.Causes.{lanes_are_taken, names_differ, heard_replies};
     ghost use Rattle.controller_run.specs.Lanes.{lane_rules};
 
     ghost State = { CoreState };
@@ -132,7 +135,8 @@ fn lane_group(lane: Lane) -> ListGroup
     }
 }
 
-/// Takes an event that came by the lane: an expired watch is that of the lane alone. What is noted of it, or why it isn't taken.
+/// Takes an event that came by the lane: an expired watch is that of the lane alone. What is noted
+/// of it, or why it isn't taken.
 fn take_from(core: &mut Core, lane: Lane, event: Event) -> Result<TakeNote, Refusal>
     requires { core.old.out ≡ None }
     ensures ok { IfOk result (λ note. Enters (lane_arrival core.old lane event) note core.new) }
@@ -148,7 +152,8 @@ fn take_from(core: &mut Core, lane: Lane, event: Event) -> Result<TakeNote, Refu
     }
 }
 
-/// Tells that the item of this number was taken from the lane, and what is noted of it, and makes the turns that follow.
+/// Tells that the item of this number was taken from the lane, and what is noted of it, and makes
+/// the turns that follow.
 fn tell_item<K: Sink>(
     alloc: Global,
     core: &mut Core,
@@ -160,7 +165,8 @@ fn tell_item<K: Sink>(
     requires { core.old.out ≡ None }
     ensures core { OnOk result (core.new ≡ (turns_from core.old).core) }
     ensures ok { OnOk result (Grows (K.written out.old) (K.written out.new)
-        (line_of (took_text (name_of lane) number) ++ (note_text note.now ++ output_of (turns_from core.old).entries))) }
+        (line_of (took_text (name_of lane) number)
+        ++ (note_text note.now ++ output_of (turns_from core.old).entries))) }
     ensures err { IfErr result (λ halt. Halts halt
         (line_of (took_text (name_of lane) number) ++ (note_text note.now ++ output_of (turns_from core.old).entries))
         (K.written out.old) (K.written out.new) (K.faults out.old) (K.faults out.new)) }
@@ -178,7 +184,8 @@ fn drive_item<K: Sink>(
     out: &mut K,
 ) -> Result<(), Refusal>
     requires { core.old.out ≡ None }
-    ensures ok { OnOk result (TakesItem lane_rules core.old core.new item (K.written out.old) (K.written out.new)) }
+    ensures ok { OnOk result (TakesItem lane_rules core.old core.new item (K.written out.old)
+        (K.written out.new)) }
     ensures err { IfErr result (λ refusal. RefusesItem refusal lane_rules core.old item
         (K.written out.old) (K.written out.new) (K.faults out.old) (K.faults out.new)) }
     ensures later { K.faults out.old ≤ K.faults out.new }

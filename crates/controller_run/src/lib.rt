@@ -1,4 +1,5 @@
-//! What the controller does with the words of its command line: a run over one stream, or over two lane files, or a trial.
+//! What the controller does with the words of its command line: a run over one stream, or over two
+//! lane files, or a trial.
 #![tactic(auto)]
 
 mod controller;

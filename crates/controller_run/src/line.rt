@@ -1,4 +1,4 @@
-//! One line: an event that is taken, or the reply to the put that is out.
+//! One line: an event that is taken, or the reply to the put in flight.
 ghost use Rattle.std.specs.Prelude.{◌≡◌, ◌≤◌, OnOk, IfErr, IsSome, None, Some};
 ghost use Rattle.kube_lines.specs.ReplyLines.{GivesReply, reply_of};
 ghost use Rattle.kube_model.specs.declared.put.Put.{Put};
@@ -36,7 +36,7 @@ fn take_line<K: Sink>(
     Ok(told?)
 }
 
-/// Reads the line as the reply to the put that is out.
+/// Reads the line as the reply to the put in flight.
 fn reply_in(alloc: Global, core: &Core, line: &Line) -> Result<PutReply, ReplyFault>
     requires { IsSome core.now.out }
     ensures { (put : Put) → core.now.out ≡ Some put
@@ -48,7 +48,7 @@ fn reply_in(alloc: Global, core: &Core, line: &Line) -> Result<PutReply, ReplyFa
     read_reply(alloc, put, line.bytes.as_slice())
 }
 
-/// Takes the line as the reply to the put that is out, and makes the turns that follow.
+/// Takes the line as the reply to the put in flight, and makes the turns that follow.
 pub(crate) fn hear_line<K: Sink>(
     alloc: Global,
     core: &mut Core,

@@ -43,7 +43,7 @@ is-other : (one other : List ℕ) (o : CommandOption) → HasEither one other o 
 is-other one other o (inl is) not = absurd (not is)
 is-other one other o (inr is) not = is
 
--- the first option is the one, and the only other behind it is the other
+-- the first option is the one, and the only other after it is the other
 two-first : (one other x y : List ℕ) (o : CommandOption) (options : List CommandOption) → bytes_eq one other ≡ false → o.name ≡ one
     → AllByRecursion (HasEither one other) options
     → values_of one (o ∷ options) ≡ x ∷ [] → values_of other (o ∷ options) ≡ y ∷ [] → o ∷ options ≡ option_of one x ∷ option_of other y ∷ []

@@ -3,7 +3,8 @@ ghost use Rattle.std.specs.Prelude.{◌≡◌, IfSome, IfNone};
 ghost use Rattle.std.specs.Option.{option_map};
 ghost use Rattle.command_options.specs.Options.{texts_of};
 ghost use Rattle.controller_words.specs.Words.{Say, AreKnown};
-ghost use Rattle.controller_words.specs.Reading.{asked_in, Given, with_option, with_class, with_seed};
+ghost use Rattle.controller_words.specs.Reading.{asked_in, Given, with_option, with_class};
+ghost use Rattle.controller_words.specs.Reading.{with_seed};
 ghost use Rattle.controller_words.specs.Reading.{with_steps, with_config, with_service, finished};
 ghost use Rattle.controller_words.specs.Seen.{asked_seen, given_seen};
 
@@ -23,7 +24,8 @@ const SERVICE_OPTION: &str = "--service-lane";
 /// What the words ask for.
 #[derive(Clone, Copy)]
 pub enum Asked<'a> {
-    /// A run for the services of the class, a text that isn't empty; with none, for those that name none.
+    /// A run for the services of the class, a text that isn't empty; with none, for those that name
+    /// none.
     Run {
         class: Option<&'a str>,
     },
@@ -32,7 +34,8 @@ pub enum Asked<'a> {
         seed: u64,
         steps: u32,
     },
-    /// A run over two lane files, first that of the configuration, second that of the services, for the services of the class.
+    /// A run over two lane files, first that of the configuration, second that of the services, for
+    /// the services of the class.
     Lanes {
         class: Option<&'a str>,
         files: LaneFiles<'a>,

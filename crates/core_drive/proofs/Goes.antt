@@ -1,4 +1,4 @@
--- What is driven goes on from a run of the core, so it is sound, and where no put is out nothing is left waiting.
+-- What is driven goes on from a run of the core, so it is sound, and where no put is in flight nothing is left waiting.
 use Rattle.std.proofs.Common.{◌≡◌, ◌≢◌, ℕ, true, List, [], ◌∷◌, ◌++◌, Option, Some, None, is_some, refl, sym, ap, ◌∙◌, subst}
 use Rattle.kube_model.specs.declared.event.Event.{Event}
 use Rattle.kube_model.specs.declared.event.ListGroup.{ListGroup}
@@ -23,7 +23,7 @@ use Rattle.core_drive.specs.Drive.{Driven, TranscriptEntry, turned, turns, takin
 use Rattle.core_drive.specs.Laws.{BeginsFresh, EventsGoOn, ExpiriesGoOn, RepliesGoOn, DrivesAreSound, DrivesAreQuiet}
 use Rattle.core_drive.specs.Sound.{AreNotesRight, LeadsTo, ShowsTerms, ShowsFamilies, HasFamilies}
 
--- ---- transcripts one behind the other
+-- ---- transcripts one after the other
 pub behind-append : (xs ys : List TranscriptEntry) (earlier : List CoreEntry) → behind (xs ++ ys) earlier ≡ behind ys (behind xs earlier)
 behind-append [] ys earlier = refl
 behind-append (x ∷ xs) ys earlier = behind-append xs ys (core_entry x ∷ earlier)
@@ -34,7 +34,7 @@ notes-append [] ys earlier first then = then
 notes-append (x ∷ xs) ys earlier first then = (first.0, notes-append xs ys (core_entry x ∷ earlier) first.1 then)
 
 -- ---- what goes on from a run of the core is a run of the core
--- What is driven goes on from the run: it leads to its core, with right notes, and ends with a put that is out or nothing queued.
+-- What is driven goes on from the run: it leads to its core, with right notes, and ends with a put in flight or nothing queued.
 record GoesOn (class : Option (List ℕ)) (run : List CoreEntry) (d : Driven) : Type 0 where
   is : IsRun class (behind d.entries run)
   core : core_after class (behind d.entries run) ≡ d.core

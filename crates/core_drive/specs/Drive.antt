@@ -20,7 +20,7 @@ pub data TranscriptEntry : Type 0 where
   Turned : (turn : Turn) → TranscriptEntry  -- a turn came to this
   Heard : (reply : PutReply) → TranscriptEntry  -- the put that was out was answered
 
--- what was entered, and the core behind it
+-- what was entered, and the core after it
 pub record Driven : Type 0 where
   pub entries : List TranscriptEntry
   pub core : State
@@ -63,7 +63,7 @@ core_entry (ListExpired group) = ExpiredByCore group
 core_entry (Turned turn) = TurnedByCore turn
 core_entry (Heard reply) = HeardByCore reply
 
--- a transcript as a run of the core, behind an earlier one, the newest first
+-- a transcript as a run of the core, after an earlier one, the newest first
 abbrev pub behind : List TranscriptEntry → List CoreEntry → List CoreEntry
 behind [] earlier = earlier
 behind (entry ∷ later) earlier = behind later (core_entry entry ∷ earlier)

@@ -13,7 +13,7 @@ use Rattle.core_drive.specs.Sound.{IsSound, LeadsTo, ShowsTerms, ShowsFamilies}
 abbrev pub BeginsFresh : Type 0
 BeginsFresh = (class : Option (List ℕ)) → LeadsTo class [] (fresh class)
 
--- an event goes on from what was told, where no put is out
+-- an event goes on from what was told, where no put is in flight
 abbrev pub EventsGoOn : Type 0
 EventsGoOn =
     (class : Option (List ℕ)) (told : List TranscriptEntry) (s : State) (event : Event) → LeadsTo class told s → s.out ≡ None → ShowsTerms event
@@ -32,7 +32,7 @@ RepliesGoOn =
     (class : Option (List ℕ)) (told : List TranscriptEntry) (s : State) (reply : PutReply) → LeadsTo class told s → is_some s.out ≡ true
     → LeadsTo class (told ++ (hearing s reply).entries) (hearing s reply).core
 
--- what was told is sound, and where no put is out nothing is left waiting that could be served
+-- what was told is sound, and where no put is in flight nothing is left waiting that could be served
 abbrev pub DrivesAreSound : Type 0
 DrivesAreSound = (class : Option (List ℕ)) (told : List TranscriptEntry) (s : State) → LeadsTo class told s → IsSound class told
 

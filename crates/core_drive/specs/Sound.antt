@@ -43,7 +43,7 @@ HasFamilies key service = AreFamilies service.families
 abbrev pub ShowsFamilies : Event → Type 0
 ShowsFamilies event = OfEffect HasFamilies (effect_of event)
 
--- What was told is a run of the core that leads to this state, of services as there can be, with right notes; a put is out, or nothing is queued.
+-- What was told is a run of the core that leads to this state, of services as there can be, with right notes; a put is in flight, or nothing is queued.
 pub record LeadsTo (class : Option (List ℕ)) (told : List TranscriptEntry) (s : State) : Type 0 where
   pub is : IsRun class (behind told [])
   pub core : core_after class (behind told []) ≡ s

@@ -9,7 +9,8 @@ use key_queue::KeyList;
 use kube_model::Key;
 use mlb_base::{NoMemory, TryCopy};
 
-/// Keys that await a newer event, in the order in which they began to. Any of them may be the next that is shown.
+/// Keys that await a newer event, in the order in which they began to. Any of them may be the next
+/// that is shown.
 pub type AwaitingKeys = KeyList<Key>;
 
 /// Whether the key awaits a newer event.
@@ -19,7 +20,7 @@ pub(crate) fn awaits(awaiting: &AwaitingKeys, key: &Key) -> bool
     awaiting.contains(key)
 }
 
-/// The key, which awaits no newer event yet, awaits one. After want of memory they are unchanged.
+/// The key, which awaits no newer event yet, awaits one. Where memory ran out they are unchanged.
 pub fn await_newer(awaiting: &mut AwaitingKeys, key: &Key) -> Result<(), NoMemory>
     requires { has_key awaiting.old key.now ≡ false }
     ensures ok { OnOk result (awaiting.new ≡ awaiting.old ++ key.now ∷ []) }

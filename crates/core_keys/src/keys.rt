@@ -1,5 +1,6 @@
 //! Lists of keys.
-ghost use Rattle.std.specs.Prelude.{◌≡◌, ◌++◌, ◌∷◌, if◌then◌else◌, [], not, false, take, IfOk, OnOk, OnErr};
+ghost use Rattle.std.specs.Prelude.{◌≡◌, ◌++◌, ◌∷◌, if◌then◌else◌, [], not, false, take, IfOk};
+ghost use Rattle.std.specs.Prelude.{OnOk, OnErr};
 ghost use Rattle.std.specs.Option.{option_copied};
 ghost use Rattle.object_cache.specs.Stays.{passing};
 ghost use Rattle.versioned_map.specs.Objects.{listed, object_at};
@@ -64,7 +65,8 @@ pub fn keep_listed(keys: &mut Keys, services: &Services)
     keys.retain(&Listed { services });
 }
 
-/// The keys, which aren't queued and differ from one another, to the back of the queue. After want of memory it is unchanged.
+/// The keys, which aren't queued and differ from one another, to the back of the queue. Where
+/// memory ran out it is unchanged.
 pub fn append_new(queue: &mut Keys, more: Vec<Key>) -> Result<(), NoMemory>
     requires { GoBehind more.items queue.old }
     ensures ok { OnOk result (queue.new ≡ queue.old ++ more.items) }
@@ -73,7 +75,8 @@ pub fn append_new(queue: &mut Keys, more: Vec<Key>) -> Result<(), NoMemory>
     queue.append(more)
 }
 
-/// The key, which isn't among them, to the back of the keys. After want of memory they are unchanged.
+/// The key, which isn't among them, to the back of the keys. Where memory ran out they are
+/// unchanged.
 pub fn push_new(keys: &mut Keys, key: &Key) -> Result<(), NoMemory>
     requires { has_key keys.old key.now ≡ false }
     ensures ok { OnOk result (keys.new ≡ keys.old ++ key.now ∷ []) }
@@ -116,7 +119,8 @@ fn is_free_with(
     is_asked && is_free(queue, awaiting, key)
 }
 
-/// A test whether a key is free, with a recorded address or without, and listed where these alone are asked for.
+/// A test whether a key is free, with a recorded address or without, and listed where these alone
+/// are asked for.
 #[derive(Drop)]
 struct FreeWith<'a> {
     queue: &'a Keys,
@@ -137,7 +141,8 @@ impl ObjectTest<Service> for FreeWith<'_> {
     }
 }
 
-/// The free keys with a recorded address, or without, to the end of these: of all services, or of the listed ones alone.
+/// The free keys with a recorded address, or without, to the end of these: of all services, or of
+/// the listed ones alone.
 fn push_free(
     keys: &mut Vec<Key>,
     assigned: bool,
@@ -147,7 +152,8 @@ fn push_free(
     services: &Services,
 ) -> Result<(), NoMemory>
     ensures { OnOk result (keys.new.items
-        ≡ keys.old.items ++ passing (is_free_with queue.now awaiting.now assigned) (if listed_alone then listed services.now else services.now)) }
+        ≡ keys.old.items ++ passing (is_free_with queue.now awaiting.now assigned)
+        (if listed_alone then listed services.now else services.now)) }
 {
     let test = FreeWith {
         queue,
@@ -178,7 +184,9 @@ fn free_among(
     awaiting: &AwaitingKeys,
     services: &Services,
 ) -> Result<Vec<Key>, NoMemory>
-    ensures { IfOk result (λ keys. keys.items ≡ all_free queue.now awaiting.now (if listed_alone then listed services.now else services.now)) }
+    ensures { IfOk result (λ keys. keys.items
+        ≡ all_free queue.now awaiting.now
+        (if listed_alone then listed services.now else services.now)) }
 {
     let mut keys = Vec::new(alloc);
     push_free(&mut keys, true, listed_alone, queue, awaiting, services)?;
@@ -195,9 +203,11 @@ fn is_empty(holding: &Record) -> bool
         && holding.mark.as_str().is_empty()
 }
 
-/// Whether the service would lack a record if this were its record: it is held and handled, and the record is empty.
+/// Whether the service would lack a record if this were its record: it is held and handled, and the
+/// record is empty.
 pub fn lacks_with(class: Option<&Text>, holding: &Record, service: Option<&Service>) -> bool
-    ensures { result ≡ lacks_with (option_copied class.entry) holding.now (option_copied service.entry) }
+    ensures { result ≡ lacks_with (option_copied class.entry) holding.now
+        (option_copied service.entry) }
 {
     match service {
         None => false,
@@ -215,8 +225,8 @@ pub fn lacks_record(class: Option<&Text>, services: &Services, key: &Key) -> boo
     }
 }
 
-/// What is queued where a service is shown to a core that is ready: its own key, unless it is queued, and behind it the others that
-/// wait, where a claim was lost.
+/// What is queued where a service is shown to a core that is ready: its own key, unless it is
+/// queued, and after it the others that wait, where a claim was lost.
 pub fn own_and_waiting(
     alloc: Global,
     is_ready: bool,
@@ -225,7 +235,9 @@ pub fn own_and_waiting(
     queue: &Keys,
     waiting: &WaitingKeys,
 ) -> Result<Vec<Key>, NoMemory>
-    ensures keys { IfOk result (λ keys. keys.items ≡ (if is_ready then own_key own.now queue.now ++ others_where is_lost own.now waiting.now.keys else [])) }
+    ensures keys { IfOk result (λ keys. keys.items
+        ≡ (if is_ready then own_key own.now queue.now
+        ++ others_where is_lost own.now waiting.now.keys else [])) }
     ensures ordered { IsOrdered key_cmp waiting.now }
 {
     let mut others = waiting.others_where(alloc, is_lost, own)?;
@@ -249,7 +261,8 @@ pub fn listed_and_free(
     waiting: &WaitingKeys,
 ) -> Result<Vec<Key>, NoMemory>
     ensures keys { IfOk result (λ keys. keys.items ≡ (if not is_ready then [] else (if was_ready
-        then (if is_lost then listed_keys services.now waiting.now.keys else []) else all_free queue.now awaiting.now (listed services.now)))) }
+        then (if is_lost then listed_keys services.now waiting.now.keys else [])
+        else all_free queue.now awaiting.now (listed services.now)))) }
     ensures ordered { IsOrdered key_cmp waiting.now }
 {
     let listed = waiting.listed_where(alloc, is_lost, services)?;

@@ -1,5 +1,14 @@
-//! The keys that the controller's core keeps: those that are queued, those whose services wait for an address, and those that await a
-//! newer event.
+//! The keys that the controller's core keeps: those that are queued, those whose services wait for
+//! an address, and those that await a newer event.
+//!
+//! Keys are queued before the rest of a call changes anything, and taken back where it fails.
+//!
+//! Services that wait for an address are found by an ordered set of their keys: those that are
+//! handled, have an empty record, and are neither queued nor awaiting. It is kept while the core is
+//! ready; while it isn't, nothing is queued, and when it becomes ready every free key is. A release
+//! goes through these keys, and queues them but for its own. A turn puts its key in where the held
+//! record is empty, and a reply that stores an empty record does; where memory runs out for it, the
+//! turn isn't made, and the put stays in flight.
 #![tactic(auto)]
 
 mod awaiting;

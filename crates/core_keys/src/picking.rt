@@ -28,7 +28,8 @@ pub(crate) fn push_passing<T, P: ObjectTest<T>>(
     test: &P,
     objects: &VersionedMap<Key, T>,
 ) -> Result<(), NoMemory>
-    ensures { OnOk result (keys.new.items ≡ keys.old.items ++ keys_where (P.passes test.now) objects.now) }
+    ensures { OnOk result (keys.new.items
+        ≡ keys.old.items ++ keys_where (P.passes test.now) objects.now) }
 {
     for (key, held) in objects.iter() {
         if test.passes(key, held) {
@@ -45,7 +46,8 @@ pub(crate) fn passing_where<K: Ord + TryCopy, P: KeyTest<K>>(
     test: &P,
     keys: &BTreeSet<K>,
 ) -> Result<Vec<K>, NoMemory>
-    ensures keys { IfOk result (λ found. found.items ≡ (if are_asked then filter (P.passes test.now) keys.now.keys else [])) }
+    ensures keys { IfOk result (λ found. found.items
+        ≡ (if are_asked then filter (P.passes test.now) keys.now.keys else [])) }
     ensures ordered { IsOrdered K.cmp keys.now }
 {
     let mut found = Vec::new(alloc);
@@ -60,7 +62,8 @@ fn push_where<K: Ord + TryCopy, P: KeyTest<K>>(
     test: &P,
     keys: &BTreeSet<K>,
 ) -> Result<(), NoMemory>
-    ensures keys { OnOk result (found.new.items ≡ found.old.items ++ (if are_asked then filter (P.passes test.now) keys.now.keys else [])) }
+    ensures keys { OnOk result (found.new.items
+        ≡ found.old.items ++ (if are_asked then filter (P.passes test.now) keys.now.keys else [])) }
     ensures ordered { IsOrdered K.cmp keys.now }
 {
     let each = keys.iter();

@@ -1,5 +1,6 @@
 //! The keys of services that wait for an address.
-ghost use Rattle.std.specs.Prelude.{◌≡◌, ◌&&◌, ◌||◌, [], if◌then◌else◌, not, false, IfOk, OnOk, OnErr};
+ghost use Rattle.std.specs.Prelude.{◌≡◌, ◌&&◌, ◌||◌, [], if◌then◌else◌, not, false, IfOk, OnOk};
+ghost use Rattle.std.specs.Prelude.{OnErr};
 ghost use Rattle.std.specs.BTreeSet.{IsOrdered, contains};
 ghost use Rattle.kube_model.specs.declared.key.Key.{Key as KeyValue};
 ghost use Rattle.kube_model.specs.Keys.{key_cmp, same_key};
@@ -16,8 +17,8 @@ use std::alloc::Global;
 use std::collections::BTreeSet;
 use std::marker::Model;
 
-/// The keys of services that wait for an address, ascending. To put one in or take it out takes the logarithm of their number; a
-/// release goes through all.
+/// The keys of services that wait for an address, ascending. To put one in or take it out takes the
+/// logarithm of their number; a release goes through all.
 pub struct WaitingKeys {
     keys: BTreeSet<Key>,
 }
@@ -47,9 +48,10 @@ impl WaitingKeys {
         }
     }
 
-    /// The key waits too. After want of memory nothing has changed.
+    /// The key waits too. Where memory ran out nothing has changed.
     pub fn insert(&mut self, key: &Key) -> Result<(), NoMemory>
-        ensures ok { OnOk result ((k : KeyValue) → contains key_cmp self.new k ≡ (same_key key.now k || contains key_cmp self.old k)) }
+        ensures ok { OnOk result ((k : KeyValue)
+            → contains key_cmp self.new k ≡ (same_key key.now k || contains key_cmp self.old k)) }
         ensures err { OnErr result (self.new ≡ self.old) }
     {
         self.keys.insert(key.copy()?)?;
@@ -58,7 +60,8 @@ impl WaitingKeys {
 
     /// The key doesn't wait. It takes no memory.
     pub fn remove(&mut self, key: &Key)
-        ensures { (k : KeyValue) → contains key_cmp self.new k ≡ (not (same_key key.now k) && contains key_cmp self.old k) }
+        ensures { (k : KeyValue) → contains key_cmp self.new k
+            ≡ (not (same_key key.now k) && contains key_cmp self.old k) }
     {
         self.keys.remove(key);
     }
@@ -72,7 +75,8 @@ impl WaitingKeys {
 
     /// Where so, none waits. It takes no memory.
     pub fn clear_where(&mut self, released: bool)
-        ensures { (k : KeyValue) → contains key_cmp self.new k ≡ (not released && contains key_cmp self.old k) }
+        ensures { (k : KeyValue) → contains key_cmp self.new k
+            ≡ (not released && contains key_cmp self.old k) }
     {
         if released {
             self.clear();
@@ -81,7 +85,8 @@ impl WaitingKeys {
 
     /// The key doesn't wait, and where a claim was lost none does. It takes no memory.
     pub fn release(&mut self, is_lost: bool, key: &Key)
-        ensures { (k : KeyValue) → contains key_cmp self.new k ≡ (not is_lost && (not (same_key key.now k) && contains key_cmp self.old k)) }
+        ensures { (k : KeyValue) → contains key_cmp self.new k
+            ≡ (not is_lost && (not (same_key key.now k) && contains key_cmp self.old k)) }
     {
         self.remove(key);
         self.clear_where(is_lost);
@@ -89,16 +94,19 @@ impl WaitingKeys {
 
     /// Where a claim was lost, no other key than this one waits. It takes no memory.
     pub fn release_others(&mut self, is_lost: bool, key: &Key)
-        ensures { (k : KeyValue) → contains key_cmp self.new k ≡ ((same_key key.now k || not is_lost) && contains key_cmp self.old k) }
+        ensures { (k : KeyValue) → contains key_cmp self.new k
+            ≡ ((same_key key.now k || not is_lost) && contains key_cmp self.old k) }
     {
         if is_lost {
             self.keys.retain(|k| *k == *key);
         }
     }
 
-    /// Those that aren't held, or weren't listed, don't wait, and where a claim was lost none does. It takes no memory.
+    /// Those that aren't held, or weren't listed, don't wait, and where a claim was lost none does.
+    /// It takes no memory.
     pub fn keep_listed(&mut self, is_lost: bool, services: &Services)
-        ensures { (k : KeyValue) → contains key_cmp self.new k ≡ (not is_lost && (not (is_unlisted services.now k) && contains key_cmp self.old k)) }
+        ensures { (k : KeyValue) → contains key_cmp self.new k
+            ≡ (not is_lost && (not (is_unlisted services.now k) && contains key_cmp self.old k)) }
     {
         self.keys.retain(|key| !is_unlisted(services, key));
         self.clear_where(is_lost);
@@ -111,7 +119,8 @@ impl WaitingKeys {
         is_lost: bool,
         own: &Key,
     ) -> Result<Vec<Key>, NoMemory>
-        ensures keys { IfOk result (λ keys. keys.items ≡ others_where is_lost own.now self.now.keys) }
+        ensures keys { IfOk result (λ keys. keys.items
+            ≡ others_where is_lost own.now self.now.keys) }
         ensures ordered { IsOrdered key_cmp self.now }
     {
         passing_where(alloc, is_lost, &OtherThan { key: own }, &self.keys)
@@ -124,7 +133,8 @@ impl WaitingKeys {
         is_lost: bool,
         services: &Services,
     ) -> Result<Vec<Key>, NoMemory>
-        ensures keys { IfOk result (λ keys. keys.items ≡ (if is_lost then listed_keys services.now self.now.keys else [])) }
+        ensures keys { IfOk result (λ keys. keys.items
+            ≡ (if is_lost then listed_keys services.now self.now.keys else [])) }
         ensures ordered { IsOrdered key_cmp self.now }
     {
         passing_where(alloc, is_lost, &Listed { services }, &self.keys)

@@ -125,7 +125,7 @@ heard-by (Some put) key Unknown adopted before c there =
     doubted-by (same_key put.key key) (claim_of put.key put.holding terms) (added put.key put.holding terms before) before c
     (added-by (list_any (is_under put.holding terms) before) (claim_of put.key put.holding terms) before c) there
 
--- the terms that a put's record would adopt don't change where no event is taken, and no put is out where one is
+-- the terms that a put's record would adopt don't change where no event is taken, and no put is in flight where one is
 pub came : (class : Option (List ℕ)) (x : TranscriptEntry) (earlier : List TranscriptEntry) → ((core_after class earlier).out ≡ None → put_out earlier ≡ None)
     → IsRun class (x ∷ earlier)
     → (key : Key) (c : ClaimValue) → Contains (may_have key (x ∷ earlier)) c → ¬ (Contains (may_have key earlier) c) → Came x (terms_shown key earlier) key c

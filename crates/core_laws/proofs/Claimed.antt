@@ -1,4 +1,4 @@
--- Each held service has the claim of its record, and others behind it while a put of it is in doubt.
+-- Each held service has the claim of its record, and others after it while a put of it is in doubt.
 use Rattle.std.proofs.Common.{◌≡◌, ◌≢◌, ℕ, Bool, true, false, cond, eqb, leb, ◌&&◌, ◌||◌, not, List, [], ◌∷◌, ◌++◌, Option, Some, None, option_map}
 use Rattle.std.proofs.Common.{append-nil, append_assoc, ◌⊎◌, inl, inr, ⊎_elim, refl, sym, ap, subst, ◌∙◌}
 use Rattle.std.proofs.lemmas.Bool.{true≢false, or_parts}
@@ -273,7 +273,7 @@ not-foreign : (s : State) (service : Service) → chosen_at s service ≢ Foreig
 not-foreign s service here =
     case-has _ _ _ _ (λ _ foreign. absurd (here foreign)) (λ none _. none) (choose-is s.claims (offer_in s.held service) s.class service (chosen_at s service) refl)
 
--- so it is with the service of a put that is out
+-- so it is with the service of a put in flight
 out-own : (class : Option (List ℕ)) (run : List TranscriptEntry) → IsRun class run → (put : Put) → (core_after class run).out ≡ Some put
     → (h : Versioned Service) → held_at key_cmp (core_after class run).held.services put.key ≡ Some h → ¬ (IsForeign class h.object)
 out-own class run is put out h found =

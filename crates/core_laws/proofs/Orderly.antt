@@ -101,7 +101,7 @@ free-added queue awaiting es s =
       unawaited = among-append mine others awaiting one.unawaited two.unawaited;
     }
 
--- ---- a service's own key, and those behind it
+-- ---- a service's own key, and those after it
 own-once : (b : Bool) (own : Key) → AreApart (cond b [] (own ∷ []))
 own-once true own = tt
 own-once false own = (refl, tt)

@@ -1,4 +1,4 @@
--- Each queued key is held, and so is that of the put that is out.
+-- Each queued key is held, and so is that of the put in flight.
 use Rattle.std.proofs.Common.{◌≡◌, ℕ, Bool, true, false, cond, leb, eqb, ltb, not, ◌&&◌, ◌||◌, List, [], ◌∷◌, ◌++◌}
 use Rattle.std.proofs.Common.{Option, Some, None, is_eq, is_some, option_map, ⊎_elim, refl, sym, ap, subst, ◌∙◌}
 use Rattle.std.specs.Cmp.{tied_itself}

@@ -89,7 +89,7 @@ expired-quiet s groups.Endpoint quiet key service is_set out found =
     (quiet key service (subst (λ (q : List Key). is_settled (record s { queue = q }) key ≡ true) queue is_set) out found) (λ x. refl)
     (λ reason is at left. left)
 
--- ---- the put that is out is what is chosen
+-- ---- the put in flight is what is chosen
 pub wants-some : (turn : Turn) (put : Put) → put_in turn ≡ Some put → (pending : Option Reason) × (turn ≡ Wants put pending)
 wants-some Idle put e = absurd (cc)
 wants-some (NoPut key pending) put e = absurd (cc)
@@ -116,7 +116,7 @@ pub none-some : (out : Option Put) (put : Put) → out ≡ None → out ≡ Some
 none-some None put n e = absurd (cc)
 none-some (Some other) put n e = absurd (cc)
 
--- a put is out after a turn alone
+-- a put is in flight after a turn alone
 pub out-chosen : (class : Option (List ℕ)) (run : List TranscriptEntry) → IsRun class run → (put : Put) → (core_after class run).out ≡ Some put
     → PutIsChosen (core_after class run) put
 out-chosen class [] is put e = absurd (cc)

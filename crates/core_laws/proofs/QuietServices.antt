@@ -66,7 +66,7 @@ pub own-there : (ready : Bool) (queue more : List Key) (own : Key) → ready ≡
 own-there true queue more own r = has_key-append queue (own_key own queue ++ more) own ∙ own-by (has_key queue own) queue more own refl
 own-there false queue more own r = absurd (cc)
 
--- behind the queue and its own key
+-- after the queue and its own key
 pub more-by : (ready : Bool) (queue own more : List Key) (key : Key) → ready ≡ true → has_key (queue ++ cond ready (own ++ more) []) key ≡ false
     → (has_key queue key ≡ false) × (has_key more key ≡ false)
 more-by true queue own more key r e =

@@ -1,4 +1,4 @@
--- While a core isn't ready nothing is queued and no put is out.
+-- While a core isn't ready nothing is queued and no put is in flight.
 use Rattle.std.proofs.Common.{◌≡◌, ℕ, Bool, true, false, cond, ◌&&◌, List, [], ◌∷◌, ◌++◌, Option, Some, None, is_some, Result, Ok, Err, refl, sym, ◌∙◌}
 use Rattle.mlb_base.proofs.Bools.{false_before}
 use Rattle.kube_model.specs.declared.config_fault.ConfigFault.{ConfigFault}

@@ -47,7 +47,7 @@ use Rattle.core_laws.proofs.Puts.{puts_are_right}
 use Rattle.core_laws.proofs.Ages.{has-is, has-from, has-not, age-none, age-some, age-positive, was-older, was-new, suc-less}
 use Rattle.core_laws.proofs.Came.{Came, came}
 
--- no put is out where an event is taken or a turn is made
+-- no put is in flight where an event is taken or a turn is made
 pub none-out : (class : Option (List ℕ)) (run : List TranscriptEntry) → IsRun class run → (core_after class run).out ≡ None → put_out run ≡ None
 none-out class run is e = sym (core_holds_what_was_observed class run is).1 ∙ e
 

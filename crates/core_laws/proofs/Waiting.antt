@@ -81,7 +81,7 @@ module _ (has : Holders) (o : Offer) (q : Asker) (addresses : List AddressValue)
   same : (W A S : Type 0) {R : Type 0} → (R → S) → Case W A R → Case W A S
   same W A S then c = ⊎_elim (λ here. inl here) (λ there. inr (there.0, then there.1)) c
 
-  -- the cases behind that of a record which stays
+  -- the cases after that of a record which stays
   behind : (c : Choice) (A B C : Type 0)
       → Case (AsksAddresses q × NoneIs (IsHome o q) o.pools) A
       (Case (AsksAddresses q × ((pool : CompiledPool) × IsFirst (IsHome o q) o.pools pool × ¬ (AllUsable has q pool (asked_in q.wanted)))) B

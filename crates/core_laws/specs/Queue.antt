@@ -19,7 +19,7 @@ NoneAmong keys others = (key : Key) → has_key keys key ≡ true → has_key ot
 abbrev pub IsHeld : State → Key → Type 0
 IsHeld s key = is_some (service_of s.held key) ≡ true
 
--- Each key is queued once, is held and doesn't await a newer event. The key of the put that is out isn't queued, and while the core
+-- Each key is queued once, is held and doesn't await a newer event. The key of the put in flight isn't queued, and while the core
 -- isn't ready no key is.
 pub record IsOrderlyQueue (s : State) : Type 0 where
   pub once : AreApart s.queue

@@ -25,7 +25,7 @@ IsQuietAsShown class run =
     → awaits_shown key run ≡ false
     → MeetsRow class (offer_shown ready.config (observed run)) (λ k. claims_shown k run) held.object
 
--- so it is whenever nothing is queued and no put is out
+-- so it is whenever nothing is queued and no put is in flight
 abbrev pub RunsAreQuietAsShown : Type 0
 RunsAreQuietAsShown =
     (class : Option (List ℕ)) (run : List TranscriptEntry) → IsRun class run → (core_after class run).queue ≡ [] → put_out run ≡ None → IsQuietAsShown class run

@@ -34,7 +34,7 @@ IsRightEntry class (Expired group) earlier = ⊤
 IsRightEntry class (Turned turn) earlier = IsRightTurn class turn earlier
 IsRightEntry class (Heard reply) earlier = ⊤
 
--- The entry is right by what stands before it, and behind it services share their addresses, or the cluster showed it so.
+-- The entry is right by what stands before it, and after it services share their addresses, or the cluster showed it so.
 pub record IsRightMoment (class : Option (List ℕ)) (entry : TranscriptEntry) (earlier : List TranscriptEntry) : Type 0 where
   pub right : IsRightEntry class entry earlier
   pub shared : AreSharedOrShown (entry ∷ earlier)

@@ -1,4 +1,4 @@
--- What the core holds along a run, and which put is out.
+-- What the core holds along a run, and which put is in flight.
 use Rattle.std.proofs.Common.{◌≡◌, true, List, [], ◌∷◌, Option, Some, None, is_some, refl, sym, ap, subst, ◌∙◌}
 use Rattle.kube_model.specs.declared.event.Event.{Event}
 use Rattle.kube_model.specs.declared.event.ListGroup.TheVariants as groups

@@ -42,6 +42,6 @@ abbrev pub replied_to : Option Put → State → PutReply → State
 replied_to None s reply = s
 replied_to (Some put) s reply = replied s put reply
 
--- the core after the reply to the put that is out
+-- the core after the reply to the put in flight
 abbrev pub core_reply : State → PutReply → State
 core_reply s reply = replied_to s.out s reply

@@ -40,7 +40,7 @@ abbrev pub core_after : Option (List ℕ) → List TranscriptEntry → State
 core_after class [] = fresh class
 core_after class (e ∷ earlier) = entered e (core_after class earlier)
 
--- events are taken and turns are made while no put is out; a reply comes to a put that is out; each turn is the core's
+-- events are taken and turns are made while no put is in flight; a reply comes to a put in flight; each turn is the core's
 abbrev pub MayEnter : TranscriptEntry → State → Type 0
 MayEnter (Took event) s = s.out ≡ None
 MayEnter (Expired group) s = s.out ≡ None

@@ -73,13 +73,13 @@ effect_of Ignored = Nothing
 abbrev pub shows : ℕ → Service → Event
 shows version service = Changed version (objects.Service service)
 
--- a key, and behind it the others that wait, where a claim was lost
+-- a key, and after it the others that wait, where a claim was lost
 abbrev pub own_and_waiting : Bool → Bool → State → Key → List Key
 own_and_waiting ready lost s key =
     if ready then own_key key s.queue ++ waiting lost s.class (same_key key) s.queue s.awaiting s.held.services else []
 
 -- The service is held in place of what was held, its record settles its claims, and the key stops awaiting and is queued. One
--- that isn't newer than what is held is passed over. Where a claim is lost, the others that wait are queued behind it.
+-- that isn't newer than what is held is ignored. Where a claim is lost, the others that wait are queued after it.
 abbrev pub with_service : State → ℕ → Service → State
 with_service s version service =
     let newer = is_newer key_cmp s.held.services service.key version in

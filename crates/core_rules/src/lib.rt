@@ -1,4 +1,5 @@
-//! What the controller's core is, what each event, turn and reply makes of it, and what holds of every run.
+//! What the controller's core is, what each event, turn and reply makes of it, and what holds of
+//! every run.
 #![tactic(auto)]
 
 mod laws;

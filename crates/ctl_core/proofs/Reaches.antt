@@ -43,7 +43,7 @@ reached-quiet s r = subst IsQuiet r.leads (runs_are_quiet r.class r.run r.is)
 pub reached-orderly : (s : State) → IsReached s → IsOrderly s.queue s.awaiting s.out
 reached-orderly s r = subst (λ (t : State). IsOrderly t.queue t.awaiting t.out) r.leads (runs-orderly r.class r.run r.is)
 
--- while it isn't ready nothing is queued and no put is out
+-- while it isn't ready nothing is queued and no put is in flight
 pub reached-idle : (s : State) → IsReached s → IsIdle (is_ready s.held) s.queue s.out
 reached-idle s r = subst (λ (t : State). IsIdle (is_ready t.held) t.queue t.out) r.leads (runs-idle r.class r.run r.is)
 

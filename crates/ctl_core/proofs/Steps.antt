@@ -12,7 +12,7 @@ use Rattle.core_rules.specs.Take.{shows, with_service}
 use Rattle.ctl_core.specs.declared.take.Prepared.{Prepared}
 use Rattle.ctl_core.specs.Holding.{IsPrepared, held_service}
 
--- one that isn't is passed over
+-- one that isn't is ignored
 pub passed-over : (s : State) (version : ℕ) (service : Service) → leb version (version_at key_cmp s.held.services service.key) ≡ true
     → s ≡ with_service s version service
 passed-over s version service old = rw old refl

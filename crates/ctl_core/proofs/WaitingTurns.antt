@@ -266,7 +266,7 @@ drop-rest [] = refl
 drop-rest (k ∷ keys) = refl
 
 module _ (s : State) (reached : IsReached s) where
-  -- while a put is out it is ready
+  -- while a put is in flight it is ready
   pub ready-out : (put : Put) → s.out ≡ Some put → is_ready s.held ≡ true
   ready-out put is = ready-by_out (is_ready s.held) s.queue s.out put (reached-idle s reached) is
 
@@ -279,7 +279,7 @@ module _ (s : State) (reached : IsReached s) where
       (waiting-turned s.class s.held s.queue s.awaiting before after (reached-orderly s reached).order (λ n. (reached-idle s reached n).0) w now)
 
   module _ (put : Put) (is_out : s.out ≡ Some put) where
-    -- while a put is out the set has the keys of those that wait, in their order
+    -- while a put is in flight the set has the keys of those that wait, in their order
     pub others-out : (lost : Bool) (set : BTreeSet Key) → AreWaiting s.class s.held s.queue s.awaiting set → IsOrdered key_cmp set
         → others_where lost put.key set.keys ≡ waiting lost s.class (same_key put.key) s.queue s.awaiting s.held.services
     others-out lost set w ordered =

@@ -15,7 +15,8 @@ use object_cache::ObjectCache;
 use sharing_terms::{Backend, PortSet, Terms, terms_of};
 use std::alloc::Global;
 
-/// The record as it is claimed: under the terms of its mark, and where it is the mark of none under the adopted ones.
+/// The record as it is claimed: under the terms of its mark, and where it is the mark of none under
+/// the adopted ones.
 fn adopting(alloc: Global, key: &Key, holding: &Record, adopted: Terms) -> Result<Claim, NoMemory>
     ensures { IfOk result (λ c. c ≡ record { key = key.now; holding = holding.now; terms = terms_under holding.now adopted }) }
 {

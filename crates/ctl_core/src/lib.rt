@@ -1,5 +1,14 @@
-//! The controller's core: what it holds of the cluster, who has or may have which addresses, and which services it still has to
-//! decide on.
+//! The controller's core: what it holds of the cluster, who has or may have which addresses, and
+//! which services it still has to decide on.
+//!
+//! `Core::put_out` tells the put that has no reply yet, so that the driver keeps no copy of the
+//! core's state.
+//!
+//! The core keeps that some run led to its state, so that what holds of every run can be a clause
+//! of each of its calls.
+//!
+//! An event of the configuration looks for free keys among all services, since it may queue them
+//! all, and only once both lists have ended.
 #![tactic(auto)]
 
 mod claims;

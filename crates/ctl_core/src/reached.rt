@@ -1,5 +1,6 @@
 //! The core as others use it: each of its states is one that a run leads to.
-ghost use Rattle.std.specs.Prelude.{◌≡◌, ◌↔◌, ◌⊎◌, ◌+◌, ◌<◌, length, None, true, IsErrOf, IfOk, IfErr, OnOk, OnErr, IsSome, IsTrue};
+ghost use Rattle.std.specs.Prelude.{◌≡◌, ◌↔◌, ◌⊎◌, ◌+◌, ◌<◌, length, None, true, IsErrOf, IfOk};
+ghost use Rattle.std.specs.Prelude.{IfErr, OnOk, OnErr, IsSome, IsTrue};
 ghost use Rattle.std.specs.Option.{option_copied};
 ghost use Rattle.object_cache.specs.Limits.{most_services};
 ghost use Rattle.core_laws.specs.Quiet.{IsQuiet};
@@ -18,8 +19,9 @@ use object_cache::TakeNote;
 use std::alloc::Global;
 use std::marker::Model;
 
-/// What the controller knows of the cluster, and what it still has to decide. Whatever it was told, each settled service, but the
-/// one that is being written, has the record that was chosen for it; where none could be chosen, none can be now.
+/// What the controller knows of the cluster, and what it still has to decide. Whatever it was told,
+/// each settled service, but the one that is being written, has the record that was chosen for it;
+/// where none could be chosen, none can be now.
 pub struct Core {
     state: CoreState,
 }
@@ -42,8 +44,8 @@ impl Model for Core {
 }
 
 impl Core {
-    /// A core that holds nothing. It handles the services of the class (`spec.loadBalancerClass`), and with none those that name
-    /// none.
+    /// A core that holds nothing. It handles the services of the class (`spec.loadBalancerClass`),
+    /// and with none those that name none.
     pub fn new(alloc: Global, class: Option<Text>) -> Result<Core, NoMemory>
         ensures { IfOk result (λ core. core ≡ fresh class) }
     {
@@ -51,7 +53,8 @@ impl Core {
         Ok(Core { state })
     }
 
-    /// Whether the lists of the configuration and of the services have ended, and a configuration is in force.
+    /// Whether the lists of the configuration and of the services have ended, and a configuration
+    /// is in force.
     pub fn is_ready(&self) -> bool
         ensures { result ≡ is_ready self.now.held }
     {
@@ -75,7 +78,8 @@ impl Core {
         }
     }
 
-    /// Whether the core is ready and holds the service, which is neither queued nor awaits a newer event.
+    /// Whether the core is ready and holds the service, which is neither queued nor awaits a newer
+    /// event.
     pub fn is_settled(&self, key: &Key) -> bool
         ensures { result ≡ is_settled self.now key.now }
     {
@@ -91,14 +95,16 @@ impl Core {
         self.state.out.as_ref()
     }
 
-    /// Takes an event: what it shows of the cluster is held. It is refused where one service more would be held than may be,
-    /// with their number. After a refusal the core is unchanged.
+    /// Takes an event: what it shows of the cluster is held. It is refused where one service more
+    /// would be held than may be, with their number. After a refusal the core is unchanged.
     pub fn take(&mut self, event: Event) -> Result<TakeNote, TakeFault>
         requires { self.old.out ≡ None }
         ensures note { IfOk result (λ note. note ≡ core_note self.old event) }
         ensures ok { OnOk result (self.new ≡ core_take self.old event) }
-        ensures limit { IsErrOf result (TakeFault.Limit (most_services + 1)) ↔ (limits self.old event ≡ true) }
-        ensures faults { IfErr result (λ fault. (fault ≡ TakeFault.Limit (most_services + 1)) ⊎ (fault ≡ TakeFault.NoMemory)) }
+        ensures limit { IsErrOf result (TakeFault.Limit (most_services + 1))
+            ↔ (limits self.old event ≡ true) }
+        ensures faults { IfErr result (λ fault. (fault ≡ TakeFault.Limit (most_services + 1))
+            ⊎ (fault ≡ TakeFault.NoMemory)) }
         ensures err { OnErr result (self.new ≡ self.old) }
         ensures quiet { IsQuiet self.new }
     {
@@ -121,8 +127,8 @@ impl Core {
         self.state.next_turn()
     }
 
-    /// Makes the next turn: the front key is taken out of the queue and chosen for. A put that is wanted is out until it is
-    /// answered. After want of memory the core is unchanged.
+    /// Makes the next turn: the front key is taken out of the queue and chosen for. A put that is
+    /// wanted is out until it is answered. Where memory ran out the core is unchanged.
     pub fn next_put(&mut self) -> Result<Turn, NoMemory>
         requires { self.old.out ≡ None }
         ensures turn { IfOk result (λ turn. turn ≡ core_turn self.old) }
@@ -133,7 +139,8 @@ impl Core {
         self.state.next_put()
     }
 
-    /// Takes the reply to the put that is out. After want of memory the put is still out, and nothing changed.
+    /// Takes the reply to the put in flight. Where memory ran out the put is still in flight, and
+    /// nothing changed.
     pub fn answered(&mut self, reply: PutReply) -> Result<(), NoMemory>
         requires { IsSome self.old.out }
         ensures ok { OnOk result (self.new ≡ core_reply self.old reply) }

@@ -1,5 +1,6 @@
-//! The reply to the put that is out.
-ghost use Rattle.std.specs.Prelude.{◌≡◌, ◌++◌, if◌then◌else◌, OnOk, OnErr, IfErr, Some, None, IsSome};
+//! The reply to the put in flight.
+ghost use Rattle.std.specs.Prelude.{◌≡◌, ◌++◌, if◌then◌else◌, OnOk, OnErr, IfErr, Some, None};
+ghost use Rattle.std.specs.Prelude.{IsSome};
 ghost use Rattle.std.specs.BTreeSet.{contains};
 ghost use Rattle.std.specs.Option.{option_copied};
 ghost use Rattle.kube_model.specs.declared.key.Key.{Key as KeyValue};
@@ -21,7 +22,8 @@ use mlb_base::NoMemory;
 use object_cache::ObjectCache;
 
 impl CoreState {
-    /// Takes the reply to the put that is out. After want of memory the put is still out, and nothing changed.
+    /// Takes the reply to the put in flight. Where memory ran out the put is still in flight, and
+    /// nothing changed.
     pub(crate) fn answered(&mut self, reply: PutReply) -> Result<(), NoMemory>
         requires out { IsSome self.old.out }
         requires reached { IsReached self.old }
@@ -40,7 +42,8 @@ impl CoreState {
         }
     }
 
-    /// The reply to a put that was out. After want of memory it is handed back, and nothing changed.
+    /// The reply to a put that was out. Where memory ran out it is handed back, and nothing
+    /// changed.
     fn replied(&mut self, put: Put, reply: PutReply) -> Result<(), Put>
         requires out { self.old.out ≡ None }
         requires reached { IsReached (record self.old { out = Some put }) }
@@ -129,8 +132,8 @@ fn store_put(cache: &mut ObjectCache, version: u64, put: Put)
     cache.store(&key, version, holding);
 }
 
-/// The keys are queued, and the put's key waits where the put takes its record away and it is handled; else it doesn't. After want of
-/// memory nothing has changed.
+/// The keys are queued, and the put's key waits where the put takes its record away and it is
+/// handled; else it doesn't. After want of memory nothing has changed.
 fn queue_and_let_wait(
     queue: &mut Keys,
     more: Vec<Key>,
@@ -159,7 +162,8 @@ fn queue_and_let_wait(
     }
 }
 
-/// The key waits where the put takes its record away and it is handled; else it doesn't. After want of memory nothing has changed.
+/// The key waits where the put takes its record away and it is handled; else it doesn't. Where
+/// memory ran out nothing has changed.
 fn let_wait(
     waiting: &mut WaitingKeys,
     class: Option<&Text>,

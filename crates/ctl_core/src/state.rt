@@ -46,8 +46,8 @@ impl Model for CoreState {
 }
 
 impl CoreState {
-    /// A core that holds nothing. It handles the services of the class (`spec.loadBalancerClass`), and with none those that name
-    /// none.
+    /// A core that holds nothing. It handles the services of the class (`spec.loadBalancerClass`),
+    /// and with none those that name none.
     pub(crate) fn new(alloc: Global, class: Option<Text>) -> Result<CoreState, NoMemory>
         ensures { IfOk result (λ core. core ≡ fresh class) }
     {
@@ -64,7 +64,8 @@ impl CoreState {
     }
 }
 
-/// Whether the lists of the configuration and of the services have ended, and a configuration is in force.
+/// Whether the lists of the configuration and of the services have ended, and a configuration is in
+/// force.
 pub(crate) fn is_ready(cache: &ObjectCache) -> bool
     ensures { result ≡ is_ready cache.now }
 {

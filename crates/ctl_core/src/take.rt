@@ -1,5 +1,6 @@
 //! Events that are taken.
-ghost use Rattle.std.specs.Prelude.{◌≡◌, ◌↔◌, ◌⊎◌, ◌+◌, ◌++◌, ◌&&◌, ◌||◌, [], if◌then◌else◌, not, is_some, None, true, false};
+ghost use Rattle.std.specs.Prelude.{◌≡◌, ◌↔◌, ◌⊎◌, ◌+◌, ◌++◌, ◌&&◌, ◌||◌, [], if◌then◌else◌, not};
+ghost use Rattle.std.specs.Prelude.{is_some, None, true, false};
 ghost use Rattle.std.specs.Prelude.{IsErrOf, OnOk, OnErr, IfOk, IfErr};
 ghost use Rattle.kube_model.specs.Keys.{key_cmp};
 ghost use Rattle.object_history.specs.Observations.{Watched};
@@ -10,8 +11,10 @@ ghost use Rattle.object_cache.specs.declared.change.TakeNote.TheVariants.{Quiet 
 ghost use Rattle.versioned_map.specs.Objects.{is_newer};
 ghost use Rattle.claim_index.specs.Claims.{has_claims};
 ghost use Rattle.core_rules.specs.Core.{all_free, is_ready, pools_in};
-ghost use Rattle.core_rules.specs.Take.{Configures, effect_of, core_take, core_note, core_expired, limits, with_service, without_service};
-ghost use Rattle.core_rules.specs.Take.{with_services_listed, all_expired, listed_and_free, have_claims, shows, is_accepted, configured};
+ghost use Rattle.core_rules.specs.Take.{Configures, effect_of, core_take, core_note, core_expired};
+ghost use Rattle.core_rules.specs.Take.{limits, with_service, without_service};
+ghost use Rattle.core_rules.specs.Take.{with_services_listed, all_expired, listed_and_free};
+ghost use Rattle.core_rules.specs.Take.{have_claims, shows, is_accepted, configured};
 ghost use Rattle.core_keys.specs.Queued.{GoBehind};
 ghost use Rattle.full_entries.specs.Entries.{AreThose};
 ghost use Rattle.ctl_core.specs.Holding.{IsPrepared, held_service};
@@ -41,15 +44,17 @@ struct Prepared {
 }
 
 impl CoreState {
-    /// Takes an event: what it shows of the cluster is held. It is refused where one service more would be held than may be,
-    /// with their number. After a refusal the core is unchanged.
+    /// Takes an event: what it shows of the cluster is held. It is refused where one service more
+    /// would be held than may be, with their number. After a refusal the core is unchanged.
     pub(crate) fn take(&mut self, event: Event) -> Result<TakeNote, TakeFault>
         requires out { self.old.out ≡ None }
         requires reached { IsReached self.old }
         ensures note { IfOk result (λ note. note ≡ core_note self.old event) }
         ensures ok { OnOk result (self.new ≡ core_take self.old event) }
-        ensures limit { IsErrOf result (TakeFault.Limit (most_services + 1)) ↔ (limits self.old event ≡ true) }
-        ensures faults { IfErr result (λ fault. (fault ≡ TakeFault.Limit (most_services + 1)) ⊎ (fault ≡ TakeFault.NoMemory)) }
+        ensures limit { IsErrOf result (TakeFault.Limit (most_services + 1))
+            ↔ (limits self.old event ≡ true) }
+        ensures faults { IfErr result (λ fault. (fault ≡ TakeFault.Limit (most_services + 1))
+            ⊎ (fault ≡ TakeFault.NoMemory)) }
         ensures err { OnErr result (self.new ≡ self.old) }
     {
         match event {
@@ -111,7 +116,8 @@ impl CoreState {
         ensures ok { OnOk result (self.new ≡ with_service self.old version service) }
         ensures limit { IsErrOf result (TakeFault.Limit (most_services + 1))
             ↔ (passes key_cmp most_services self.old.held.services service.key version ≡ true) }
-        ensures faults { IfErr result (λ fault. (fault ≡ TakeFault.Limit (most_services + 1)) ⊎ (fault ≡ TakeFault.NoMemory)) }
+        ensures faults { IfErr result (λ fault. (fault ≡ TakeFault.Limit (most_services + 1))
+            ⊎ (fault ≡ TakeFault.NoMemory)) }
         ensures err { OnErr result (self.new ≡ self.old) }
     {
         if self.cache.passes_limit(version, &service.key) {
@@ -235,7 +241,9 @@ impl CoreState {
     fn listed_and_free(&self, is_lost: bool) -> Result<Vec<Key>, NoMemory>
         requires lost { is_lost ≡ have_claims self.now.held.services self.now.claims }
         requires reached { IsReached self.now }
-        ensures { IfOk result (λ more. more.items ≡ listed_and_free (is_ready self.now.held) (self.now.held.config_ended && is_some self.now.held.config)
+        ensures { IfOk result (λ more. more.items
+            ≡ listed_and_free (is_ready self.now.held)
+            (self.now.held.config_ended && is_some self.now.held.config)
             (have_claims self.now.held.services self.now.claims) self.now) }
     {
         listed_and_free(
@@ -271,10 +279,12 @@ impl CoreState {
         Ok(applied.note)
     }
 
-    /// The keys that are queued where the event wakes them: every free key, and none while it can't.
+    /// The keys that are queued where the event wakes them: every free key, and none while it
+    /// can't.
     fn may_be_woken(&self, event: &Event) -> Result<Vec<Key>, NoMemory>
         ensures { IfOk result
-            (λ keys. keys.items ≡ (if may_wake self.now.held event.now then all_free self.now.queue self.now.awaiting self.now.held.services else [])) }
+            (λ keys. keys.items ≡ (if may_wake self.now.held event.now
+            then all_free self.now.queue self.now.awaiting self.now.held.services else [])) }
     {
         if !may_wake(&self.cache, event) {
             return Ok(Vec::new(self.alloc));
@@ -297,7 +307,7 @@ impl CoreState {
     }
 }
 
-/// The keys are queued, and the service is shown. After want of memory nothing has changed.
+/// The keys are queued, and the service is shown. Where memory ran out nothing has changed.
 fn queue_and_show(
     queue: &mut Keys,
     cache: &mut ObjectCache,
@@ -306,7 +316,8 @@ fn queue_and_show(
     service: Service,
 ) -> Result<(), NoMemory>
     requires { GoBehind more.items queue.old }
-    ensures cache { OnOk result (cache.new ≡ cached_after (Watched (shows version service)) cache.old) }
+    ensures cache { OnOk result (cache.new
+        ≡ cached_after (Watched (shows version service)) cache.old) }
     ensures queue { OnOk result (queue.new ≡ queue.old ++ more.items) }
     ensures cache_err { OnErr result (cache.new ≡ cache.old) }
     ensures queue_err { OnErr result (queue.new ≡ queue.old) }
@@ -324,7 +335,7 @@ fn queue_and_show(
     }
 }
 
-/// The keys are queued, and the event is applied. After want of memory nothing has changed.
+/// The keys are queued, and the event is applied. Where memory ran out nothing has changed.
 fn queue_and_apply(
     queue: &mut Keys,
     cache: &mut ObjectCache,
@@ -354,7 +365,8 @@ fn queue_and_apply(
 /// Where a configuration was accepted, addresses are chosen from its pools from now on.
 fn enter_accepted(alloc: Global, book: &mut Book, cache: &ObjectCache, applied: &Applied)
     ensures claims { book.new.claims ≡ book.old.claims }
-    ensures accepted { is_accepted applied.now.note ≡ true → AreThose (pools_in cache.now.config) book.new.entries }
+    ensures accepted { is_accepted applied.now.note ≡ true
+        → AreThose (pools_in cache.now.config) book.new.entries }
     ensures others { is_accepted applied.now.note ≡ false → book.new.entries ≡ book.old.entries }
 {
     if !matches!(applied.note, TakeNote::Accepted) {
@@ -390,7 +402,8 @@ fn is_configured(cache: &ObjectCache) -> bool
 }
 
 fn wakes(was_ready: bool, applied: &Applied, is_ready: bool) -> bool
-    ensures { result ≡ (is_ready && (not was_ready || is_accepted applied.now.note || applied.now.namespace_changed)) }
+    ensures { result ≡ (is_ready && (not was_ready || is_accepted applied.now.note
+        || applied.now.namespace_changed)) }
 {
     is_ready
         && (!was_ready || matches!(applied.note, TakeNote::Accepted) || applied.namespace_changed)

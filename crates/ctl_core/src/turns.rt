@@ -22,8 +22,8 @@ use pool_config::Config;
 use std::alloc::Global;
 
 impl CoreState {
-    /// Makes the next turn: the front key is taken out of the queue and chosen for. A put that is wanted is out until it is
-    /// answered. After want of memory the core is unchanged.
+    /// Makes the next turn: the front key is taken out of the queue and chosen for. A put that is
+    /// wanted is out until it is answered. Where memory ran out the core is unchanged.
     pub(crate) fn next_put(&mut self) -> Result<Turn, NoMemory>
         requires out { self.old.out ≡ None }
         requires reached { IsReached self.old }
@@ -61,7 +61,8 @@ impl CoreState {
 
     /// What the service of a key comes to.
     fn turn_at(&self, key: &Key) -> Result<Turn, NoMemory>
-        ensures { IfOk result (λ turn. turn ≡ turn_at self.now key.now (service_of self.now.held key.now)) }
+        ensures { IfOk result (λ turn. turn
+            ≡ turn_at self.now key.now (service_of self.now.held key.now)) }
     {
         match self.cache.service(key) {
             None => Ok(Turn::NoPut {
@@ -121,8 +122,8 @@ impl CoreState {
     }
 }
 
-/// The key at the front, which is taken out of the queue, waits where its service lacks a record. After want of memory nothing has
-/// changed.
+/// The key at the front, which is taken out of the queue, waits where its service lacks a record.
+/// Where memory ran out nothing has changed.
 fn let_front_wait(
     waiting: &mut WaitingKeys,
     class: Option<&Text>,
@@ -130,7 +131,8 @@ fn let_front_wait(
     queue: &Keys,
 ) -> Result<(), NoMemory>
     ensures ok { OnOk result ((k : KeyValue) → contains key_cmp waiting.new k
-        ≡ (is_front_lacking (option_copied class.entry) services.now queue.now k || contains key_cmp waiting.old k)) }
+        ≡ (is_front_lacking (option_copied class.entry) services.now queue.now k
+        || contains key_cmp waiting.old k)) }
     ensures err { OnErr result (waiting.new ≡ waiting.old) }
 {
     match queue.first() {
@@ -167,8 +169,9 @@ fn is_foreign(choice: &Choice) -> bool
     matches!(choice, Choice::Foreign)
 }
 
-/// What a choice comes to, where this record is held, and the service has another claim or not. A service of another class is never
-/// written; another is where the chosen record isn't the held one, or it has another claim.
+/// What a choice comes to, where this record is held, and the service has another claim or not. A
+/// service of another class is never written; another is where the chosen record isn't the held
+/// one, or it has another claim.
 fn turn_for(
     alloc: Global,
     key: &Key,

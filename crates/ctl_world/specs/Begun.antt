@@ -21,7 +21,7 @@ first_stored version object = record { version = version; object = with_record e
 abbrev pub handed_in : ℕ → Object → Stored
 handed_in version object = record { version = version; object = object }
 
--- each object is stored so, at its place in the list, behind so many others
+-- each object is stored so, at its place in the list, after so many others
 abbrev pub AreStoredAs : (ℕ → Object → Stored) → ℕ → List Object → StoreValue → Type 0
 AreStoredAs form before [] store = ⊤
 AreStoredAs form before (object ∷ more) store = IsStored store.objects (place_of object) (form (before + 1) object) × AreStoredAs form (before + 1) more store

@@ -10,7 +10,7 @@ use Rattle.world_rules.specs.World.{WorldValue, IsEnabled, IsLimited, after_cras
 abbrev pub IsSameOrCrashed : WorldValue → WorldValue → Type 0
 IsSameOrCrashed old new = (new ≡ old) ⊎ ((applied : Bool) × (new ≡ after_crash applied old))
 
--- What want of memory leaves: after a turn or a crash the controller may have stopped; any other step leaves the world as it was.
+-- What running out of memory leaves: after a turn or a crash the controller may have stopped; any other step leaves the world as it was.
 abbrev pub IsAfterWant : Step → WorldValue → WorldValue → Type 0
 IsAfterWant (Edits edit) old new = new ≡ old
 IsAfterWant (Take group) old new = new ≡ old

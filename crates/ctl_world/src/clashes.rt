@@ -4,7 +4,8 @@ ghost use Rattle.std.specs.List.{list_any};
 ghost use Rattle.std.specs.Option.{option_copied};
 ghost use Rattle.ip_ranges.specs.Values.{has_address};
 ghost use Rattle.kube_model.specs.declared.key.Key.{Key as KeyValue};
-ghost use Rattle.ctl_world.specs.Clashes.{under, marked_of, marked_in, clash, copied_pair, partner, first_pair, clash_in};
+ghost use Rattle.ctl_world.specs.Clashes.{under, marked_of, marked_in, clash, copied_pair, partner};
+ghost use Rattle.ctl_world.specs.Clashes.{first_pair, clash_in};
 
 use crate::starts::StartFault;
 use ip_ranges::{Address, AddressList};
@@ -124,8 +125,8 @@ fn refuse(pair: Option<(&Key, &Key)>) -> Result<(), StartFault>
     }
 }
 
-/// Refuses the objects where two of their services clash, and names the first that do. Each service is compared with all: a world's
-/// beginning is no event.
+/// Refuses the objects where two of their services clash, and names the first that do. Each service
+/// is compared with all: a world's beginning is no event.
 pub(crate) fn check(alloc: Global, objects: &[Stored]) -> Result<(), StartFault>
     ensures ok { OnOk result (clash_in objects.now ≡ None) }
     ensures refused { (first second : KeyValue) → IsErrOf result (StartFault.Unsafe first second)

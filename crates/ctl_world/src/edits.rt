@@ -1,5 +1,6 @@
 //! Somebody edits the store.
-ghost use Rattle.std.specs.Prelude.{◌≡◌, ◌<◌, ◌-◌, ◌^◌, ◌++◌, true, Some, IfOk, OnOk, OnErr, option_to_list};
+ghost use Rattle.std.specs.Prelude.{◌≡◌, ◌<◌, ◌-◌, ◌^◌, ◌++◌, true, Some, IfOk, OnOk, OnErr};
+ghost use Rattle.std.specs.Prelude.{option_to_list};
 ghost use Rattle.status_store.specs.Places.{service_at};
 ghost use Rattle.status_store.specs.Objects.{stored_at};
 ghost use Rattle.status_store.specs.Changes.{kept_record, record_of, set_as, edited, edited_place};
@@ -18,7 +19,8 @@ use std::collections::VecDeque;
 use std::mem;
 
 impl WorldState {
-    /// The change is made, and a controller that is up is going to be shown it. After want of memory nothing is changed.
+    /// The change is made, and a controller that is up is going to be shown it. Where memory ran
+    /// out nothing is changed.
     pub(crate) fn edit(&mut self, edit: Edit) -> Result<(), NoMemory>
         requires room { self.old.store.counter < 2 ^ 64 - 1 }
         requires there { may_edit edit self.old.store ≡ true }
@@ -36,7 +38,8 @@ impl WorldState {
 
     fn edit_and_show(&mut self, edit: Edit, shown: Option<Event>) -> Result<(), NoMemory>
         requires room { self.old.store.counter < 2 ^ 64 - 1 }
-        requires shown { option_to_list shown ≡ while_up self.old.core (shown_edit edit self.old.store) }
+        requires shown { option_to_list shown
+            ≡ while_up self.old.core (shown_edit edit self.old.store) }
         ensures ok { OnOk result (self.new ≡ after_edit edit self.old) }
         ensures err { OnErr result (self.new ≡ self.old) }
     {
@@ -54,7 +57,8 @@ impl WorldState {
     fn shown(&self, edit: &Edit) -> Result<Option<Event>, NoMemory>
         requires room { self.now.store.counter < 2 ^ 64 - 1 }
         requires there { may_edit edit.now self.now.store ≡ true }
-        ensures { IfOk result (λ event. option_to_list event ≡ while_up self.now.core (shown_edit edit.now self.now.store)) }
+        ensures { IfOk result (λ event. option_to_list event
+            ≡ while_up self.now.core (shown_edit edit.now self.now.store)) }
     {
         match &self.core {
             None => Ok(None),
@@ -138,7 +142,8 @@ fn with_holding(service: &Service, holding: Record) -> Result<Service, NoMemory>
     Ok(service)
 }
 
-/// The change, and behind it in the lane what is shown of it. After want of memory both are unchanged.
+/// The change, and after it in the lane what is shown of it. Where memory ran out both are
+/// unchanged.
 fn edit_shown(
     store: &mut Store,
     lane: &mut VecDeque<Event>,

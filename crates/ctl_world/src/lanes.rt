@@ -1,5 +1,6 @@
 //! What is still to be shown of a group, oldest first.
-ghost use Rattle.std.specs.Prelude.{◌≡◌, ◌<◌, ◌++◌, ◌∷◌, [], reverse, IfOk, IsOk, OnOk, option_to_list};
+ghost use Rattle.std.specs.Prelude.{◌≡◌, ◌<◌, ◌++◌, ◌∷◌, [], reverse, IfOk, IsOk, OnOk};
+ghost use Rattle.std.specs.Prelude.{option_to_list};
 ghost use Rattle.std.specs.VecDeque.{deque_capacity, deque_len};
 ghost use Rattle.world_rules.specs.World.{as_shown, in_order, listing};
 ghost use Rattle.ctl_world.specs.Listed.{shown_in, listed};
@@ -113,7 +114,8 @@ fn push_listing(
     push_event(lane, Event::ListEnd { group })
 }
 
-/// The list of the group: each stored object of it, by kind and then by key or the other way round, and the end of the list.
+/// The list of the group: each stored object of it, by kind and then by key or the other way round,
+/// and the end of the list.
 pub(crate) fn listing(
     alloc: Global,
     store: &Store,

@@ -1,5 +1,9 @@
-//! The world of a controller, in code: a store that others edit, what of it is still to be shown, and a core that may stop. It is
-//! made one step at a time, and no two services of its store are ever recorded with one address, unless they share it.
+//! The world of a controller, in code: a store that others edit, what of it is still to be shown,
+//! and a core that may stop. It is made one step at a time, and no two services of its store are
+//! ever recorded with one address, unless they share it.
+//!
+//! Where memory runs out for the copy of an event that passes the limit of services, a take answers
+//! NoMemory, and the world is unchanged.
 #![tactic(auto)]
 
 mod clashes;

@@ -1,10 +1,12 @@
 //! The controller makes a turn, or stops.
-ghost use Rattle.std.specs.Prelude.{◌≡◌, ◌<◌, ◌-◌, ◌^◌, ◌⊎◌, true, [], if◌then◌else◌, IfOk, OnOk, OnErr, IsTrue, option_to_list, option_map};
+ghost use Rattle.std.specs.Prelude.{◌≡◌, ◌<◌, ◌-◌, ◌^◌, ◌⊎◌, true, [], if◌then◌else◌, IfOk, OnOk};
+ghost use Rattle.std.specs.Prelude.{OnErr, IsTrue, option_to_list, option_map};
 ghost use Rattle.core_rules.specs.Turn.{after_turn};
 ghost use Rattle.status_store.specs.Places.{service_at};
 ghost use Rattle.status_store.specs.Objects.{stored_at};
 ghost use Rattle.status_store.specs.Changes.{is_made, is_at_version, after_put, arrives};
-ghost use Rattle.world_rules.specs.World.{next_put, after_turning, after_crash, shown_stored, reached};
+ghost use Rattle.world_rules.specs.World.{next_put, after_turning, after_crash, shown_stored};
+ghost use Rattle.world_rules.specs.World.{reached};
 ghost use Rattle.ctl_world.specs.Steps.{HasNoneOut, HasOneOut};
 ghost use Rattle.ctl_world.specs.Faults.{IsSameOrCrashed};
 ghost use Rattle.ctl_world.specs.Puts.{stopped, after_reply, put_to, MayHaveReached};
@@ -18,7 +20,8 @@ use mlb_base::NoMemory;
 use status_store::{Outcome, Store};
 
 impl WorldState {
-    /// The controller makes a turn. Where it wants a put, the put goes to the store, and the core hears the reply.
+    /// The controller makes a turn. Where it wants a put, the put goes to the store, and the core
+    /// hears the reply.
     pub(crate) fn turn(&mut self, outcome: Outcome) -> Result<(), NoMemory>
         requires room { self.old.store.counter < 2 ^ 64 - 1 }
         requires out { HasNoneOut self.old.core }
@@ -35,7 +38,8 @@ impl WorldState {
         }
     }
 
-    /// The put goes to the store. Where there is no memory to hear of it, the controller stops: the put may have reached the store.
+    /// The put goes to the store. Where there is no memory to hear of it, the controller stops: the
+    /// put may have reached the store.
     fn send_or_stop(&mut self, put: &Put, outcome: Outcome) -> Result<(), NoMemory>
         requires room { self.old.store.counter < 2 ^ 64 - 1 }
         requires out { HasOneOut self.old.core }
@@ -55,7 +59,8 @@ impl WorldState {
         requires room { self.old.store.counter < 2 ^ 64 - 1 }
         requires out { HasOneOut self.old.core }
         ensures ok { OnOk result (self.new ≡ put_to self.old.core put.now outcome self.old) }
-        ensures store { OnErr result ((self.new.store ≡ self.old.store) ⊎ (self.new.store ≡ after_put put.now outcome self.old.store)) }
+        ensures store { OnErr result ((self.new.store ≡ self.old.store)
+            ⊎ (self.new.store ≡ after_put put.now outcome self.old.store)) }
         ensures class { self.new.class ≡ self.old.class }
     {
         self.service_lane.reserve(1)?;
@@ -83,7 +88,8 @@ impl WorldState {
         drop(self.core.take());
     }
 
-    /// The controller stops. The put that its next turn would want has reached the store, if it is applied.
+    /// The controller stops. The put that its next turn would want has reached the store, if it is
+    /// applied.
     pub(crate) fn crash(&mut self, applied: bool) -> Result<(), NoMemory>
         requires room { IsTrue applied → self.old.store.counter < 2 ^ 64 - 1 }
         requires out { HasNoneOut self.old.core }
@@ -165,7 +171,8 @@ fn is_made(store: &Store, put: &Put, outcome: Outcome) -> bool
 }
 
 fn is_at_version(store: &Store, put: &Put) -> bool
-    ensures { result ≡ is_at_version put.now.version (stored_at store.now.objects (service_at put.now.key)) }
+    ensures { result ≡ is_at_version put.now.version
+        (stored_at store.now.objects (service_at put.now.key)) }
 {
     match store.get(Kind::Service, &put.key) {
         None => false,

@@ -25,7 +25,8 @@ use world_rules::ListOrder;
 /// Why a world isn't begun.
 #[derive(Debug, Drop, Error)]
 pub enum StartFault {
-    /// These two services are recorded with one address and with marked records, and the terms of their marks may not share it.
+    /// These two services are recorded with one address and with marked records, and the terms of
+    /// their marks may not share it.
     #[error("two services have an address that they may not share")]
     Unsafe { first: Key, second: Key },
     #[error("out of memory")]
@@ -68,7 +69,8 @@ impl WorldState {
         })
     }
 
-    /// The controller is started again, knows nothing, and is going to be shown the lists of what is stored, in this order.
+    /// The controller is started again, knows nothing, and is going to be shown the lists of what
+    /// is stored, in this order.
     pub(crate) fn restart(&mut self, order: ListOrder) -> Result<(), NoMemory>
         requires { self.old.core ≡ None }
         ensures ok { OnOk result (self.new ≡ restarted order None self.old) }
@@ -82,7 +84,8 @@ impl WorldState {
     }
 }
 
-/// What a controller is going to be shown where it is started over the store, and its core, which knows nothing.
+/// What a controller is going to be shown where it is started over the store, and its core, which
+/// knows nothing.
 fn begun(
     alloc: Global,
     store: &Store,

@@ -2,7 +2,8 @@
 ghost use Rattle.std.specs.Prelude.{◌≡◌, ◌<◌, ◌-◌, ◌^◌, false, IsTrue};
 ghost use Rattle.kube_model.specs.Records.{is_assigned};
 ghost use Rattle.status_store.specs.Changes.{record_of};
-ghost use Rattle.ctl_world.specs.Steps.{is_enabled, is_used_up, may_edit, has_event, has_lane, has_turn, takes_version};
+ghost use Rattle.ctl_world.specs.Steps.{is_enabled, is_used_up, may_edit, has_event, has_lane};
+ghost use Rattle.ctl_world.specs.Steps.{has_turn, takes_version};
 
 use ctl_core::Core;
 use kube_labels::Text;
@@ -13,7 +14,8 @@ use std::collections::VecDeque;
 use std::marker::Model;
 use world_rules::Step;
 
-/// A store, what of it is still to be shown to the controller, and the controller's core while it is up.
+/// A store, what of it is still to be shown to the controller, and the controller's core while it
+/// is up.
 #[derive(Drop)]
 pub(crate) struct WorldState {
     pub(crate) alloc: Global,
@@ -85,7 +87,8 @@ impl WorldState {
     /// Whether the step would take a version, and every version has been given.
     pub(crate) fn is_used_up(&self, step: &Step) -> bool
         ensures value { result ≡ is_used_up step.now self.now }
-        ensures room { result ≡ false → IsTrue (takes_version step.now) → self.now.store.counter < 2 ^ 64 - 1 }
+        ensures room { result ≡ false → IsTrue (takes_version step.now)
+            → self.now.store.counter < 2 ^ 64 - 1 }
     {
         takes_version(step) && self.store.counter() == u64::MAX
     }

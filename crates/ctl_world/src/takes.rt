@@ -2,7 +2,8 @@
 ghost use Rattle.std.specs.Prelude.{◌≡◌, ◌≢◌, None, true, false, IsErrOf, OnOk, OnErr};
 ghost use Rattle.kube_model.specs.declared.event.ListGroup.TheVariants as groups;
 ghost use Rattle.core_rules.specs.Take.{core_take, limits};
-ghost use Rattle.world_rules.specs.World.{told, untold, PassesLimit, after_take, after_expiry, expired_core, lane_of, listed_anew};
+ghost use Rattle.world_rules.specs.World.{told, untold, PassesLimit, after_take, after_expiry};
+ghost use Rattle.world_rules.specs.World.{expired_core, lane_of, listed_anew};
 ghost use Rattle.ctl_world.specs.Steps.{HasNoneOut};
 
 use crate::lanes::listing;
@@ -23,7 +24,8 @@ impl WorldState {
         requires { HasNoneOut self.old.core }
         ensures ok { OnOk result (self.new ≡ after_take group self.old) }
         ensures passed { OnOk result (¬ (PassesLimit self.old.core (lane_of group self.old))) }
-        ensures limit { IsErrOf result StepFault.Limit → PassesLimit self.old.core (lane_of group self.old) }
+        ensures limit { IsErrOf result StepFault.Limit
+            → PassesLimit self.old.core (lane_of group self.old) }
         ensures enabled { ¬ (IsErrOf result StepFault.NotEnabled) }
         ensures err { OnErr result (self.new ≡ self.old) }
     {
@@ -34,7 +36,8 @@ impl WorldState {
         }
     }
 
-    /// The watch of the lane expires: what was pending in it is lost, and the list is going to be shown anew, in this order.
+    /// The watch of the lane expires: what was pending in it is lost, and the list is going to be
+    /// shown anew, in this order.
     pub(crate) fn expire(&mut self, group: ListGroup, order: ListOrder) -> Result<(), NoMemory>
         requires out { HasNoneOut self.old.core }
         requires lane { group ≢ groups.Endpoint }
@@ -115,7 +118,8 @@ fn relist(
 ) -> Result<(), NoMemory>
     requires { HasNoneOut core.old }
     ensures core { OnOk result (core.new ≡ expired_core group core.old) }
-    ensures lane { OnOk result (lane.new.items ≡ listed_anew order group group store.now core.old lane.old.items) }
+    ensures lane { OnOk result (lane.new.items
+        ≡ listed_anew order group group store.now core.old lane.old.items) }
     ensures err_core { OnErr result (core.new ≡ core.old) }
     ensures err_lane { OnErr result (lane.new.items ≡ lane.old.items) }
 {

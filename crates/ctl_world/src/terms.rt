@@ -11,8 +11,8 @@ use kube_model::{Object, Port, Service};
 use status_store::Edit;
 use world_rules::Step;
 
-/// Whatever the object is: a service has terms that there can be. Its texts are UTF-8, its ports have 16 bits, and its selector
-/// ascends.
+/// Whatever the object is: a service has terms that there can be. Its texts are UTF-8, its ports
+/// have 16 bits, and its selector ascends.
 pub fn has_terms(object: &Object)
     ensures { HasTerms object.now }
 {

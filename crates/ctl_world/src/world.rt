@@ -1,5 +1,6 @@
 //! A world, one step after the other.
-ghost use Rattle.std.specs.Prelude.{◌≡◌, ◌↔◌, ◌⊎◌, ◌<◌, ◌-◌, ◌^◌, true, IfOk, IfErr, IfSome, OnOk, IsErrOf, IsTrue};
+ghost use Rattle.std.specs.Prelude.{◌≡◌, ◌↔◌, ◌⊎◌, ◌<◌, ◌-◌, ◌^◌, true, IfOk, IfErr, IfSome, OnOk};
+ghost use Rattle.std.specs.Prelude.{IsErrOf, IsTrue};
 ghost use Rattle.std.specs.Option.{option_copied};
 ghost use Rattle.core_laws.specs.Quiet.{IsQuiet};
 ghost use Rattle.kube_model.specs.declared.key.Key.{Key as KeyValue};
@@ -27,9 +28,10 @@ use std::alloc::Global;
 use std::marker::Model;
 use world_rules::{Step, StepFault};
 
-/// A cluster's objects, a controller that is shown them and writes records to them, and what of them is still to be shown. The
-/// controller may stop and be started again. At no moment are two services recorded with one address and with marked records, unless
-/// the terms of their marks may share it.
+/// A cluster's objects, a controller that is shown them and writes records to them, and what of
+/// them is still to be shown. The controller may stop and be started again. At no moment are two
+/// services recorded with one address and with marked records, unless the terms of their marks may
+/// share it.
 pub struct World {
     state: WorldState,
 }
@@ -52,10 +54,12 @@ impl Model for World {
 }
 
 impl World {
-    /// A new world. The objects are set one after the other, services with empty records, and the controller is up: it handles the
-    /// services of the class (`spec.loadBalancerClass`), and with none those that name none.
+    /// A new world. The objects are set one after the other, services with empty records, and the
+    /// controller is up: it handles the services of the class (`spec.loadBalancerClass`), and with
+    /// none those that name none.
     pub fn new(alloc: Global, objects: ObjectList, class: Option<Text>) -> Result<World, NoMemory>
-        // Where no two objects have one kind and key, each is stored, at the version of its place in the list, from 1.
+        // Where no two objects have one kind and key, each is stored, at the version of its place
+        // in the list, from 1.
         ensures stored { IfOk result (λ w. AreApart objects → IsFilled objects w.store) }
         ensures safe { IfOk result (λ w. IsSafe w.store) }
 
@@ -68,18 +72,21 @@ impl World {
         Ok(World { state })
     }
 
-    /// A new world, as `new` makes it, but the services have the records that they are handed in with. `Unsafe` is answered exactly where two
-    /// of them have an address in common and marked records, and the terms of their marks may not share it: it names the least such
-    /// pair, by the first key and then by the second. Nothing is asked of records that are the mark of no terms.
+    /// A new world, as `new` makes it, but the services have the records that they are handed in
+    /// with. `Unsafe` is answered exactly where two of them have an address in common and marked
+    /// records, and the terms of their marks may not share it: it names the least such pair, by the
+    /// first key and then by the second. Nothing is asked of records that are the mark of no terms.
     pub fn with_records(
         alloc: Global,
         objects: ObjectList,
         class: Option<Text>,
     ) -> Result<World, StartFault>
-        // Where no two objects have one kind and key, each is stored as it is handed in, at the version of its place in the list, from 1.
+        // Where no two objects have one kind and key, each is stored as it is handed in, at the
+        // version of its place in the list, from 1.
         ensures stored { IfOk result (λ w. AreApart objects → IsFilledSo objects w.store) }
         ensures accepted { OnOk result ((first second : KeyValue) → ¬ (Clash (records_store objects empty_store) first second)) }
-        ensures unsafe_pair { (first second : KeyValue) → IsErrOf result (StartFault.Unsafe first second)
+        ensures unsafe_pair { (first second : KeyValue)
+            → IsErrOf result (StartFault.Unsafe first second)
             → IsLeastClash (records_store objects empty_store) first second }
         ensures safe { IfOk result (λ w. IsSafe w.store) }
 
@@ -98,23 +105,28 @@ impl World {
         Ok(World { state })
     }
 
-    /// Makes a step. `NotEnabled` is answered exactly where there is no such step: an object is deleted that isn't there, one that is set
-    /// with its own record has an address in it, nothing is pending in the lane or queued, or the controller is down where it is to do
-    /// something, or up where it is to be started. `Limit` is answered where there is, and it would have one service more held than may
-    /// be, or would take a version after the last. After a refusal the world is unchanged; but where memory was wanted for a turn or a
-    /// crash, the controller may have stopped.
+    /// Makes a step. `NotEnabled` is answered exactly where there is no such step: an object is
+    /// deleted that isn't there, one that is set with its own record has an address in it, nothing
+    /// is pending in the lane or queued, or the controller is down where it is to do something, or
+    /// up where it is to be started. `Limit` is answered where there is, and it would have one
+    /// service more held than may be, or would take a version after the last. After a refusal the
+    /// world is unchanged; but where memory was wanted for a turn or a crash, the controller may
+    /// have stopped.
     pub fn step(&mut self, step: Step) -> Result<(), StepFault>
         ensures not_enabled { IsErrOf result StepFault.NotEnabled ↔ ¬ (IsEnabled step self.old) }
-        ensures limit { IsErrOf result StepFault.Limit → IsEnabled step self.old × IsLimited step self.old }
+        ensures limit { IsErrOf result StepFault.Limit → IsEnabled step self.old
+            × IsLimited step self.old }
         ensures limited { IsEnabled step self.old × IsLimited step self.old
             → IsErrOf result StepFault.Limit ⊎ (IsErrOf result StepFault.NoMemory × IsTake step) }
-        ensures refused { IsErrOf result StepFault.NotEnabled ⊎ IsErrOf result StepFault.Limit → self.new ≡ self.old }
+        ensures refused { IsErrOf result StepFault.NotEnabled ⊎ IsErrOf result StepFault.Limit
+            → self.new ≡ self.old }
         ensures no_memory { IsErrOf result StepFault.NoMemory → IsAfterWant step self.old self.new }
         ensures ok { OnOk result (self.new ≡ world_step step self.old) }
         ensures safe { IsSafe self.new.store }
 
         // No step gives a service an address under a record that is the mark of no terms.
-        ensures unmarked { (key : KeyValue) (r : RecordValue) → IsRecorded self.new.store key r → IsUnmarked r → is_assigned r ≡ true
+        ensures unmarked { (key : KeyValue) (r : RecordValue) → IsRecorded self.new.store key r
+            → IsUnmarked r → is_assigned r ≡ true
             → IsRecorded self.old.store key r }
     {
         steps_terms(&step);
@@ -126,7 +138,8 @@ impl World {
         ensures store { result.now ≡ self.now.store }
         ensures safe { IsSafe self.now.store }
 
-        // The objects stand in their order, each once, at versions from 1 to that of the last change.
+        // The objects stand in their order, each once, at versions from 1 to that of the last
+        // change.
         ensures kept { IsWellFormed self.now.store }
     {
         &self.state.store

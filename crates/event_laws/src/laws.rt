@@ -1,21 +1,26 @@
 //! What holds of the events and objects that are read.
 ghost use Rattle.event_laws.specs.Asked.{AnnotationsAreRead, FieldsAreRead, NothingIsAsked};
-ghost use Rattle.event_laws.specs.OtherLines.{BookmarksAreRead, MembersAreRead, FramesAreRead, FramesReadBack};
+ghost use Rattle.event_laws.specs.OtherLines.{BookmarksAreRead, MembersAreRead, FramesAreRead};
+ghost use Rattle.event_laws.specs.OtherLines.{FramesReadBack};
 ghost use Rattle.event_laws.specs.Replies.{RepliesAreRead, RepliesAreJson};
 ghost use Rattle.event_laws.specs.Versions.{VersionsAreDecimal, SetVersionsAreVersions};
 ghost use Rattle.event_laws.specs.BareLines.{NamespacesAreRead, NodesAreRead};
 ghost use Rattle.event_laws.specs.BgpLines.{BgpAdvsAreRead};
 ghost use Rattle.event_laws.specs.CommunityLines.{CommunitiesAreRead};
-ghost use Rattle.event_laws.specs.FieldOrder.{FaultIsFirst, StatedFaultIsFirst, DeletedFaultIsFirst};
+ghost use Rattle.event_laws.specs.FieldOrder.{FaultIsFirst, StatedFaultIsFirst};
+ghost use Rattle.event_laws.specs.FieldOrder.{DeletedFaultIsFirst};
 ghost use Rattle.event_laws.specs.L2Lines.{L2AdvsAreRead};
 ghost use Rattle.event_laws.specs.Naming.{ObjectsGoByName, LinesGoByName};
-ghost use Rattle.event_laws.specs.PartOrder.{ItemFaultsAreFirst, PartFaultIsFirst, port_rows, place_rows, allocation_rows};
-ghost use Rattle.event_laws.specs.PartOrder.{selector_rows, expression_rows, named_value_rows, endpoint_rows};
+ghost use Rattle.event_laws.specs.PartOrder.{ItemFaultsAreFirst, PartFaultIsFirst, port_rows};
+ghost use Rattle.event_laws.specs.PartOrder.{place_rows, allocation_rows};
+ghost use Rattle.event_laws.specs.PartOrder.{selector_rows, expression_rows, named_value_rows};
+ghost use Rattle.event_laws.specs.PartOrder.{endpoint_rows};
 ghost use Rattle.event_laws.specs.PeerLines.{PeersAreRead};
 ghost use Rattle.event_laws.specs.PoolLines.{PoolsAreRead};
 ghost use Rattle.event_laws.specs.ServiceLines.{ServicesAreRead};
 ghost use Rattle.event_laws.specs.SliceLines.{SlicesAreRead};
-ghost use Rattle.event_laws.specs.Telling.{SetLinesAreRead, DeletedLinesAreRead, SetObjectsAreStated};
+ghost use Rattle.event_laws.specs.Telling.{SetLinesAreRead, DeletedLinesAreRead};
+ghost use Rattle.event_laws.specs.Telling.{SetObjectsAreStated};
 ghost use Rattle.json_fields.specs.Expressions.{expression_of};
 ghost use Rattle.kube_model.specs.AllocationFields.{allocation_of};
 ghost use Rattle.kube_model.specs.EndpointFields.{endpoint_of};
@@ -79,7 +84,8 @@ pub fn stated_fault_is_first()
     ensures { StatedFaultIsFirst }
 {}
 
-/// The fault of an object that is gone is that of the first faulty field of its key and its version.
+/// The fault of an object that is gone is that of the first faulty field of its key and its
+/// version.
 pub fn deleted_fault_is_first()
     ensures { DeletedFaultIsFirst }
 {}
@@ -115,7 +121,8 @@ pub fn set_objects_are_stated()
     ensures { SetObjectsAreStated }
 {}
 
-/// An object is read by the values at its named paths alone: no other member changes it, at any depth.
+/// An object is read by the values at its named paths alone: no other member changes it, at any
+/// depth.
 pub fn objects_go_by_name()
     ensures { ObjectsGoByName }
 {}

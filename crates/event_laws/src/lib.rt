@@ -1,4 +1,5 @@
-//! Laws of the events and objects that are read of JSON. Each is the contract of a function that does nothing.
+//! Laws of the events and objects that are read of JSON. Each is the contract of a function that
+//! does nothing.
 #![tactic(auto)]
 
 mod laws;

@@ -6,7 +6,7 @@ use Rattle.serde_json.specs.View.{view, items_of}
 use Rattle.serde_json.specs.declared.value.Value.{Value, Array}
 use Rattle.serde_json.proofs.Views.{view-Array}
 
--- one more value behind those of the items so far
+-- one more value after those of the items so far
 pub values_more : {A : Type 0} (data_of : A → Data) (values more : List Value) (value : Value) (items : List A) (i : ℕ) (at : A)
     → more ≡ values ++ value ∷ [] → i < length items → at ≡ get_or items i at → view value ≡ data_of at
     → map view values ≡ map data_of (take i items) → map view more ≡ map data_of (take (i + 1) items)

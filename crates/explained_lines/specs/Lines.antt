@@ -125,7 +125,7 @@ path_data n path = object (line_member n (text_member (codes "op") (codes "refus
 abbrev pub reason_data : ℕ → List ℕ → Data
 reason_data n reason = object (line_member n (text_member (codes "op") (codes "refused") (text_member (codes "reason") reason no_members)))
 
--- the field at fault, or the reason where it is no field; no line is refused for want of memory
+-- the field at fault, or the reason where it is no field; no line is refused where memory ran out
 abbrev pub refused_data : ℕ → EventFault → Data
 refused_data n NotJson = reason_data n (codes "NotJson")
 refused_data n NotEvent = reason_data n (codes "NotEvent")

@@ -19,7 +19,7 @@ pub enum Explained {
     /// `unused` are the paths of what no program reads of an object that is there: those members of its spec that MetalLB's API
     /// reference has for its kind, in byte order.
     Event { event: Event, unused: TextList },
-    /// It is neither, and this is the first thing in it that isn't as stated.
+    /// It is neither, and this is the first thing in it that is invalid.
     Refused { fault: EventFault },
 }
 
@@ -72,8 +72,9 @@ fn event_or(alloc: Global, fault: EventFault, line: &[u8]) -> Result<Explained, 
     }
 }
 
-/// What the line is read as: a readable review, or else a readable event. Where it is neither, the first thing at fault is that of
-/// the review, where the line is an AdmissionReview, and else that of the event.
+/// What the line is read as: a readable review, or else a readable event. Where it is neither, the
+/// first thing at fault is that of the review, where the line is an AdmissionReview, and else that
+/// of the event.
 #[tactic(auto, unfolding(crate::specs::Explained::explained_of))]
 pub fn explain(alloc: Global, line: &[u8]) -> Result<Explained, NoMemory>
     ensures { IfOk result (λ e. e ≡ explained_of line.now) }

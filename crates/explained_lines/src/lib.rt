@@ -1,4 +1,5 @@
-//! What lines are read as, and the lines that say so: how whoever feeds the programs finds the field that stops them.
+//! What lines are read as, and the lines that say so: how whoever feeds the programs finds the
+//! field that stops them.
 #![tactic(auto)]
 
 mod explained;

@@ -6,8 +6,11 @@ ghost use Rattle.serde_json.specs.View.{view, items_of, members_view};
 ghost use Rattle.kube_lines.specs.OutputLines.{pair_text};
 ghost use Rattle.explained_lines.specs.Lines.{with_line};
 ghost use Rattle.explained_lines.specs.Lines.{object_data, set_data, put_unused, with_unused};
-ghost use Rattle.explained_lines.specs.Lines.{list_data, plain_data, ignored_data, name_of, namespace_of, namespace_in, ending_kind, event_data};
-ghost use Rattle.explained_lines.specs.Lines.{path_data, reason_data, refused_data, asked_data, unread_data, review_data, explained_data, explained_text};
+ghost use Rattle.explained_lines.specs.Lines.{list_data, plain_data, ignored_data, name_of};
+ghost use Rattle.explained_lines.specs.Lines.{namespace_of, namespace_in, ending_kind, event_data};
+ghost use Rattle.explained_lines.specs.Lines.{path_data, reason_data, refused_data, asked_data};
+ghost use Rattle.explained_lines.specs.Lines.{unread_data, review_data, explained_data};
+ghost use Rattle.explained_lines.specs.Lines.{explained_text};
 
 use crate::explained::Explained;
 use admission_reviews::{Change, Review, written};
@@ -238,7 +241,7 @@ fn event_value(
     }
 }
 
-/// The field at this path isn't as stated.
+/// The field at this path is invalid.
 fn path_value(alloc: Global, number: u64, path: &Text) -> Result<Value, NoMemory>
     ensures { IfOk result (λ v. view v ≡ path_data number path.now) }
 {
@@ -269,7 +272,7 @@ fn asked_value(alloc: Global, number: u64, uid: &Text) -> Result<Value, NoMemory
     line_value(alloc, number, &[("op", "review"), ("uid", uid.as_str())])
 }
 
-/// The field of the review's object at this path isn't as stated.
+/// The field of the review's object at this path is invalid.
 fn unread_value<'a>(
     alloc: Global,
     number: u64,

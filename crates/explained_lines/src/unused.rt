@@ -3,7 +3,8 @@ ghost use Rattle.std.specs.Prelude.{◌≡◌, ◌∷◌, ◌++◌, [], codes, m
 ghost use Rattle.serde_json.specs.Find.{get};
 ghost use Rattle.serde_json.specs.View.{view};
 ghost use Rattle.kube_model.specs.Kinds.{kind_of};
-ghost use Rattle.explained_lines.specs.Unused.{unread_members, stands_in_spec, spec_path, unused_in, object_of_line, unused_of};
+ghost use Rattle.explained_lines.specs.Unused.{unread_members, stands_in_spec, spec_path};
+ghost use Rattle.explained_lines.specs.Unused.{unused_in, object_of_line, unused_of};
 ghost use Rattle.std.specs.Prelude.{Some};
 
 use json_fields::read_value;
@@ -13,7 +14,8 @@ use mlb_base::NoMemory;
 use serde_json::Value;
 use std::alloc::Global;
 
-/// The members of a kind's spec in MetalLB's API reference (v1beta1, and v1beta2 of BGPPeer) that no program reads, in byte order.
+/// The members of a kind's spec in MetalLB's API reference (v1beta1, and v1beta2 of BGPPeer) that
+/// no program reads, in byte order.
 fn unread_members(kind: Kind) -> &'static [&'static str]
     ensures { map (λ name. name.now) result.now ≡ unread_members kind }
 {
@@ -84,8 +86,8 @@ fn unused_in_line(alloc: Global, kind: Kind, line: &[u8]) -> Result<TextList, No
     }
 }
 
-/// The paths of what no program reads of the object that is there by the event of the line, in byte order. The line isn't read again
-/// where nothing of the kind goes unread.
+/// The paths of what no program reads of the object that is there by the event of the line, in byte
+/// order. The line isn't read again where nothing of the kind goes unread.
 pub(crate) fn unused_of(alloc: Global, event: &Event, line: &[u8]) -> Result<TextList, NoMemory>
     ensures { IfOk result (λ paths. paths ≡ unused_of event.now line.now) }
 {

@@ -1,15 +1,16 @@
 -- What a fence does, one happening at a time.
-use Rattle.std.proofs.Common.{◌≡◌, ◌≢◌, ◌⊎◌, ℕ, ◌<◌, Bool, true, false, eqb, cond, List, [], ◌∷◌, Some, None}
+use Rattle.std.proofs.Common.{◌≡◌, ◌≢◌, ◌⊎◌, ℕ, ◌<◌, Bool, true, false, eqb, cond, List, [], ◌∷◌, Some, None, ⊎_elim}
 use Rattle.std.proofs.Common.{refl, sym, ap, subst, ◌∙◌, arith}
 use Rattle.std.proofs.lemmas.Bool.{eqb-true}
 use Rattle.std.specs.List.{Contains}
+use Rattle.mlb_base.proofs.Among.{contains-cons}
 use Rattle.kube_model.specs.declared.put.Put.{Put}
 use Rattle.kube_model.specs.declared.reply.PutReply.TheVariants as replies
 use Rattle.status_store.specs.declared.change.Outcome.TheVariants.{Refused}
 use Rattle.world_rules.specs.Moves.{Turns, after_move}
 use Rattle.world_rules.specs.World.{next_put}
 use Rattle.fence_rules.specs.Cluster as clusters
-use Rattle.fence_rules.specs.Cluster.{Bridge, Cluster, Happening, Asks, Carried, Does, GivesUp, Hears, Reads, Sends, Named, IsGone, IsQuiet, MayHappen, after, name_of, with_bridge}
+use Rattle.fence_rules.specs.Cluster.{Bridge, Cluster, Happening, Asks, Carried, Does, GivesUp, Hears, Reads, Sends, AreCovered, IsGone, IsQuiet, MayHappen, after, name_of, with_bridge}
 use Rattle.fence_rules.proofs.Histories.{refused-typed}
 use Rattle.fence_rules.proofs.Steps.{at-itself}
 use Rattle.put_fence.specs.declared.fence.Fence.{Fence}
@@ -60,10 +61,11 @@ module _ (who : Directory) (i : ℕ) (c : Cluster) where
   }
 
   -- it asks for the Lease
-  pub asks : (k : Known) (lease : Lease) (named : List ServiceVersion) (stage : Stage) → Knows who i k (c.bridges i) → k.seen ≡ Some lease
+  pub asks : (k : Known) (lease : Lease) (named : List ServiceVersion) (stage : Stage) → Knows who i k c.store (c.bridges i) → k.seen ≡ Some lease
       → k.asked.at < lease.version → ((c.bridges i).core ≡ None) ⊎ ((c.bridges i).seen.holder ≡ i)
-      → (names_of named ≡ (c.bridges i).seen.named) ⊎ (((c.bridges i).phase ≡ clusters.Free) × ((c.bridges i).core ≢ None))
-      → ((k : Known) (ask : clusters.Ask) → IsAt stage k c.store (let b = c.bridges i in record b { ask = ask }))
+      → (names_of named ≡ (c.bridges i).seen.named)
+      ⊎ (((c.bridges i).phase ≡ clusters.Free) × ((c.bridges i).core ≢ None) × AreCovered c.store (names_of named) (c.bridges i).late)
+      → ((made : Asked) (ask : clusters.Ask) → IsAt stage (record k { asked = made }) c.store (let b = c.bridges i in record b { ask = ask }))
       → IsFollowed who i (Asks i (names_of named) ∷ []) c
       (record { known = record k { asked = record { at = lease.version; named = named } }; stage = stage })
   asks k lease named stage knows is later own names at =
@@ -77,44 +79,49 @@ module _ (who : Directory) (i : ℕ) (c : Cluster) where
       let next : Known = record k { asked = made } in
       one (Asks i (names_of named)) (record { known = next; stage = stage }) (record b { ask = ask })
       (record { quiet = omega (arith, version, asked, later); own = own; names = names }) refl refl
-      (record { knows = record { named = knows.named; asked = ap ask_at version; seen = knows.seen }; at = at next ask })
+      (record { knows = record { named = knows.named; asked = ap ask_at version; seen = knows.seen; owed = knows.owed }; at = at made ask })
 
   -- it sends its put
-  pub sends : (put : Put) (k : Known) (stage : Stage) → Knows who i k (c.bridges i) → (c.bridges i).phase ≡ clusters.Free
+  pub sends : (put : Put) (k : Known) (stage : Stage) → Knows who i k c.store (c.bridges i) → (c.bridges i).phase ≡ clusters.Free
       → next_put (c.bridges i).core ≡ Some put → IsQuiet (c.bridges i) → (c.bridges i).seen.holder ≡ i
-      → Contains (c.bridges i).seen.named (name_of put) → IsAt stage k c.store (let b = c.bridges i in record b { phase = clusters.Sent })
+      → Contains (c.bridges i).seen.named (name_of put)
+      → ((other : Put) → Contains (c.bridges i).late other → other.key ≡ put.key → IsGone c.store (name_of other))
+      → IsAt stage k c.store (let b = c.bridges i in record b { phase = clusters.Sent })
       → IsFollowed who i (Sends i put ∷ []) c (record { known = k; stage = stage })
-  sends put k stage knows free wants quiet own named at =
+  sends put k stage knows free wants quiet own named unowed at =
       let b = c.bridges i in
       one (Sends i put) (record { known = k; stage = stage }) (record b { phase = clusters.Sent })
-      (record { free = free; wants = wants; quiet = quiet; own = own; named = named }) refl refl
-      (record { knows = record { named = knows.named; asked = knows.asked; seen = knows.seen }; at = at })
+      (record { free = free; wants = wants; quiet = quiet; own = own; named = named; unowed = unowed }) refl refl
+      (record { knows = record { named = knows.named; asked = knows.asked; seen = knows.seen; owed = knows.owed }; at = at })
 
   -- the program hears `ok`
-  pub hears : (version : ℕ) (k : Known) (stage : Stage) → Knows who i k (c.bridges i) → (c.bridges i).phase ≡ Carried version
+  pub hears : (version : ℕ) (k : Known) (stage : Stage) → Knows who i k c.store (c.bridges i) → (c.bridges i).phase ≡ Carried version
       → ((b : Bridge) → b.phase ≡ clusters.Free → IsAt stage k c.store b) → IsFollowed who i (Hears i version ∷ []) c (record { known = k; stage = stage })
   hears version k stage knows carried at =
       let b = c.bridges i in
       let next : Bridge = record b { core = clusters.answered b.core (replies.Ok version); phase = clusters.Free } in
       one (Hears i version) (record { known = k; stage = stage }) next carried refl refl
-      (record { knows = record { named = knows.named; asked = knows.asked; seen = knows.seen }; at = at next refl })
+      (record { knows = record { named = knows.named; asked = knows.asked; seen = knows.seen; owed = knows.owed }; at = at next refl })
 
-  -- it hears `unknown`
-  pub gives-up : (put : Put) (k : Known) (stage : Stage) → Knows who i k (c.bridges i) → (c.bridges i).phase ≢ clusters.Free
-      → next_put (c.bridges i).core ≡ Some put → IsGone c.store (name_of put)
+  -- it hears `unknown` of a put that is gone, or owed
+  pub gives-up : (put : Put) (k : Known) (stage : Stage) → Knows who i k c.store (c.bridges i) → (c.bridges i).phase ≢ clusters.Free
+      → next_put (c.bridges i).core ≡ Some put → IsGone c.store (name_of put) ⊎ Contains (names_of k.owed) (name_of put)
       → ((b : Bridge) → b.phase ≡ clusters.Free → IsAt stage k c.store b) → IsFollowed who i (GivesUp i put ∷ []) c (record { known = k; stage = stage })
   gives-up put k stage knows out wants gone at =
       let b = c.bridges i in
-      let next : Bridge = record b { core = clusters.answered b.core replies.Unknown; phase = clusters.Free } in
-      one (GivesUp i put) (record { known = k; stage = stage }) next (record { out = out; wants = wants; fenced = gone }) refl refl
-      (record { knows = record { named = knows.named; asked = knows.asked; seen = knows.seen }; at = at next refl })
+      let next : Bridge = record b { core = clusters.answered b.core replies.Unknown; phase = clusters.Free; late = put ∷ b.late } in
+      let covered : AreCovered c.store (names_of k.owed) (put ∷ b.late) = λ other has.
+      ⊎_elim (λ (e : put ≡ other). subst (λ (p : Put). IsGone c.store (name_of p) ⊎ Contains (names_of k.owed) (name_of p)) e gone)
+      (λ (later : Contains b.late other). knows.owed other later) (contains-cons put b.late other has) in
+      one (GivesUp i put) (record { known = k; stage = stage }) next (record { out = out; wants = wants }) refl refl
+      (record { knows = record { named = knows.named; asked = knows.asked; seen = knows.seen; owed = covered }; at = at next refl })
 
   -- it hears `stale` of what isn't sent
-  pub refuses : (k : Known) (stage : Stage) → Knows who i k (c.bridges i) → (c.bridges i).phase ≡ clusters.Free
+  pub refuses : (k : Known) (stage : Stage) → Knows who i k c.store (c.bridges i) → (c.bridges i).phase ≡ clusters.Free
       → ((b : Bridge) → b.phase ≡ clusters.Free → IsAt stage k c.store b) → IsFollowed who i (Does i (Turns Refused) ∷ []) c (record { known = k; stage = stage })
   refuses k stage knows free at =
       let b = c.bridges i in
       let next : Bridge = clusters.in_world (after_move (Turns Refused) (clusters.world_of c.class c.store b)) b in
       one (Does i (Turns Refused)) (record { known = k; stage = stage }) next
-      (record { free = free; own = tt; may = tt; typed = refused-typed b.core c.store }) refl refl
-      (record { knows = record { named = knows.named; asked = knows.asked; seen = knows.seen }; at = at next free })
+      (record { free = free; own = tt; may = tt; typed = refused-typed b.core c.store; listed = tt }) refl refl
+      (record { knows = record { named = knows.named; asked = knows.asked; seen = knows.seen; owed = knows.owed }; at = at next free })

@@ -1,25 +1,32 @@
 -- Whatever comes to bridges that are fences is a history of the cluster.
-use Rattle.std.proofs.Common.{◌≡◌, ℕ, Bool, true, false, cond, eqb, List, [], ◌∷◌, ◌++◌, Some, None, ⊎_elim, refl, sym, subst, ◌∙◌}
+use Rattle.std.proofs.Common.{◌≡◌, ℕ, Bool, true, false, cond, eqb, List, [], ◌∷◌, ◌++◌, Option, Some, None, ⊎_elim, refl, sym, subst, ◌∙◌}
 use Rattle.std.proofs.lemmas.Bool.{eqb-true, true≢false}
+use Rattle.std.specs.List.{Contains}
 use Rattle.mlb_base.proofs.Among.{contains-cons, contains-none}
 use Rattle.kube_model.specs.declared.event.Event.{Event}
+use Rattle.kube_model.specs.declared.event.ListGroup.TheVariants as groups
 use Rattle.kube_model.specs.declared.key.Key.{Key}
+use Rattle.kube_model.specs.declared.put.Put.{Put}
 use Rattle.status_store.specs.Changes.{StoreValue, IsWellFormed}
 use Rattle.status_store.proofs.ChangeLaws.{version-same}
-use Rattle.core_rules.specs.Core.{fresh}
-use Rattle.world_rules.specs.Moves.{Move, after_move}
+use Rattle.core_rules.specs.Core.{State, fresh}
+use Rattle.core_laws.specs.Shared.{AllShowTerms}
+use Rattle.world_rules.specs.Moves.{Move, Sets, Deletes, Tells as IsShown, Takes, Turns, Stops, Starts as StartsAnew, ConfigExpires, ServicesExpire, EndsLater, Lands, after_move, entries_expired}
 use Rattle.fence_rules.specs.Among.{after_all}
 use Rattle.fence_rules.specs.Cluster as clusters
-use Rattle.fence_rules.specs.Cluster.{Bridge, Cluster, Happening, Does, Starts, IsGone, MayAllHappen, MayHappen, MayStart, after, in_world, first_cluster, world_of}
+use Rattle.fence_rules.specs.Cluster.{Bridge, Cluster, Happening, Does, Starts, AreCovered, AreOver, IsGone, MayAllHappen, MayHappen, MayStart, after, in_world, first_cluster, name_of, world_of}
 use Rattle.fence_rules.specs.Fenced.{IsFenced}
 use Rattle.fence_rules.proofs.Safe.{clusters_are_safe, first-fenced, happenings_keep_fenced}
 use Rattle.fence_rules.proofs.Steps.{by-bridge, store-of}
 use Rattle.put_fence.specs.declared.answer.Input.{Input}
 use Rattle.put_fence.specs.declared.fence.Fence.{Fence}
+use Rattle.put_fence.specs.declared.known.Known.{Known}
 use Rattle.put_fence.specs.declared.stage.Stage.{Stage}
+use Rattle.put_fence.specs.declared.stage.Stage.TheVariants as stages
 use Rattle.put_fence.specs.Fences.{taken}
-use Rattle.fence_laws.specs.Follows.{Directory, Follows, IsAt, IsListing, IsTold, happened}
-use Rattle.fence_laws.specs.Runs.{AllCome, AreEarlier, Coming, Comes, Lists, Goes, Tells, FencesAreSafe, IsFollowed, MayCome, MayGo, MayList}
+use Rattle.fence_laws.specs.Follows.{Directory, Follows, IsAt, IsListing, IsTold, happened, names_of}
+use Rattle.put_fence.specs.declared.lease.ServiceVersion.{ServiceVersion}
+use Rattle.fence_laws.specs.Runs.{AllCome, AreEarlier, Coming, Comes, Lists, Relists, Goes, Tells, FencesAreSafe, IsFollowed, IsUnlisted, IsUp, MayCome, MayGo, MayList, MayRelist}
 use Rattle.fence_laws.specs.Runs.{comes_to, fences_after, first_fences, history, with_fence}
 use Rattle.fence_laws.proofs.Staying.{outside-follows, stays-gone}
 use Rattle.fence_laws.proofs.Taking.{fence_follows}
@@ -54,6 +61,57 @@ earlier-then : (past : List StoreValue) (store next : StoreValue) → ((n : Key 
     → AreEarlier past next
 earlier-then past store next gone earlier old has = let was = earlier old has in (was.0, λ n is. gone n (was.1 n is))
 
+-- what is up awaits no reply, and stays so
+up-free : (stage : Stage) (k : Known) (store : StoreValue) (b : Bridge) → IsUp stage → IsAt stage k store b → b.phase ≡ clusters.Free
+up-free (stages.Waiting call) k store b up at = absurd up
+up-free (stages.Fencing call next) k store b up at = absurd up
+up-free stages.Listing k store b up at = absurd up
+up-free (stages.Free call) k store b up at = at
+up-free (stages.Naming put call) k store b up at = absurd up
+up-free (stages.Sent put) k store b up at = absurd up
+up-free (stages.Checking put call tries) k store b up at = absurd up
+up-free (stages.Chasing call None) k store b up at = at
+up-free (stages.Chasing call (Some put)) k store b up at = absurd up
+up-free stages.Relisting k store b up at = at.0
+up-free stages.Lost k store b up at = absurd up
+
+up-again : (stage : Stage) (k : Known) (store : StoreValue) (b next : Bridge) → IsUp stage → IsAt stage k store b → next.phase ≡ clusters.Free → IsAt stage k store next
+up-again (stages.Waiting call) k store b next up at free = absurd up
+up-again (stages.Fencing call place) k store b next up at free = absurd up
+up-again stages.Listing k store b next up at free = absurd up
+up-again (stages.Free call) k store b next up at free = free
+up-again (stages.Naming put call) k store b next up at free = absurd up
+up-again (stages.Sent put) k store b next up at free = absurd up
+up-again (stages.Checking put call tries) k store b next up at free = absurd up
+up-again (stages.Chasing call None) k store b next up at free = free
+up-again (stages.Chasing call (Some put)) k store b next up at free = absurd up
+up-again stages.Relisting k store b next up at free = (free, at.1)
+up-again stages.Lost k store b next up at free = absurd up
+
+unlisted-may : (move : Move) → IsUnlisted move → (store : StoreValue) (late : List Put) → clusters.MayList move store late
+unlisted-may (Sets object holding) is store late = tt
+unlisted-may (Deletes kind key) is store late = tt
+unlisted-may (IsShown event) is store late = tt
+unlisted-may Takes is store late = tt
+unlisted-may (Turns outcome) is store late = tt
+unlisted-may (Stops applied) is store late = tt
+unlisted-may (StartsAnew list) is store late = tt
+unlisted-may ConfigExpires is store late = tt
+unlisted-may (ServicesExpire list) is store late = absurd is
+unlisted-may (EndsLater before event behind) is store late = tt
+unlisted-may (Lands put) is store late = tt
+
+expired-typed : (core : Option State) → AllShowTerms (entries_expired core groups.Service)
+expired-typed None = tt
+expired-typed (Some s) = (tt, tt)
+
+-- where nothing is owed all that was given up is gone
+covered-over : (owed : List ServiceVersion) → owed ≡ [] → (store : StoreValue) (late : List Put) → AreCovered store (names_of owed) late → AreOver store late
+covered-over owed e store late covered put has =
+    ⊎_elim (λ (g : IsGone store (name_of put)). g)
+    (λ (n : Contains (names_of owed) (name_of put)).
+    absurd (contains-none (name_of put) (subst (λ (named : List ServiceVersion). Contains (names_of named) (name_of put)) e n))) (covered put has)
+
 -- what comes may happen, and all is kept
 record Comes_well (who : Directory) (coming : Coming) (fences : ℕ → Fence) (c : Cluster) (past : List StoreValue) : Type 0 where
   pub may : MayAllHappen (comes_to coming fences) c
@@ -82,13 +140,13 @@ module _ (who : Directory) (fences : ℕ → Fence) (c : Cluster) (past : List S
     may-start = record { down = lists.down; quiet = listing.quiet; fenced = listing.gone; listed = lists.listed }
 
     abbrev begun : Bridge
-    begun = let b = c.bridges i in record b { core = Some (fresh c.class); lane = list; given = b.seen; phase = clusters.Free }
+    begun = let b = c.bridges i in record b { core = Some (fresh c.class); lane = list; given = b.seen; phase = clusters.Free; late = [] }
 
     own-begun : Follows who i (fences i) c.store begun
     own-begun =
         let knows = (kept.follows i).knows in
         record {
-          knows = record { named = knows.named; asked = knows.asked; seen = knows.seen };
+          knows = record { named = knows.named; asked = knows.asked; seen = knows.seen; owed = λ put has. absurd (contains-none put has) };
           at = subst (λ (stage : Stage). IsAt stage (fences i).known c.store begun) (sym lists.asked)
               (record { free = refl; quiet = listing.quiet; gone = listing.gone });
         }
@@ -102,10 +160,16 @@ module _ (who : Directory) (fences : ℕ → Fence) (c : Cluster) (past : List S
   -- a program does something of its own
   module _ (i : ℕ) (move : Move) (goes : MayGo move (fences i) i c) where
     free-now : (c.bridges i).phase ≡ clusters.Free
-    free-now = subst (λ (stage : Stage). IsAt stage (fences i).known c.store (c.bridges i)) goes.free (kept.follows i).at
+    free-now = up-free (fences i).stage (fences i).known c.store (c.bridges i) goes.free (kept.follows i).at
 
-    may-do : clusters.MayDo move (world_of c.class c.store (c.bridges i)) (c.bridges i).phase
-    may-do = record { free = free-now; own = goes.own; may = goes.may; typed = goes.typed }
+    may-do : clusters.MayDo move (world_of c.class c.store (c.bridges i)) (c.bridges i).phase (c.bridges i).late
+    may-do = record {
+      free = free-now;
+      own = goes.own;
+      may = goes.may;
+      typed = goes.typed;
+      listed = unlisted-may move goes.unlisted c.store (c.bridges i).late;
+    }
 
     abbrev gone_on : Bridge
     gone_on = in_world (after_move move (world_of c.class c.store (c.bridges i))) (c.bridges i)
@@ -114,14 +178,48 @@ module _ (who : Directory) (fences : ℕ → Fence) (c : Cluster) (past : List S
     own-gone_on =
         let knows = (kept.follows i).knows in
         record {
-          knows = record { named = knows.named; asked = knows.asked; seen = knows.seen };
-          at = subst (λ (stage : Stage). IsAt stage (fences i).known c.store gone_on) (sym goes.free) free-now;
+          knows = record { named = knows.named; asked = knows.asked; seen = knows.seen; owed = knows.owed };
+          at = up-again (fences i).stage (fences i).known c.store (c.bridges i) gone_on goes.free (kept.follows i).at free-now;
         }
 
     goes-well : Comes_well who (Goes i move) fences c past
     goes-well = record {
       may = (may-do, tt);
       kept = one-comes (Does i move) may-do (by-bridge (λ j x. Follows who j (fences j) c.store x) i gone_on c.bridges own-gone_on kept.follows);
+    }
+
+  -- the list that was asked for anew is given
+  module _ (i : ℕ) (list : List Event) (relists : MayRelist list (fences i) c) where
+    abbrev anew : Move
+    anew = ServicesExpire list
+
+    relisting : ((c.bridges i).phase ≡ clusters.Free) × ((fences i).known.owed ≡ [])
+    relisting = subst (λ (stage : Stage). IsAt stage (fences i).known c.store (c.bridges i)) relists.asked (kept.follows i).at
+
+    may-list : clusters.MayDo anew (world_of c.class c.store (c.bridges i)) (c.bridges i).phase (c.bridges i).late
+    may-list = record {
+      free = relisting.0;
+      own = tt;
+      may = relists.listed;
+      typed = expired-typed (c.bridges i).core;
+      listed = covered-over (fences i).known.owed relisting.1 c.store (c.bridges i).late (kept.follows i).knows.owed;
+    }
+
+    abbrev shown_anew : Bridge
+    shown_anew = in_world (after_move anew (world_of c.class c.store (c.bridges i))) (c.bridges i)
+
+    own-shown : Follows who i (fences i) c.store shown_anew
+    own-shown =
+        let knows = (kept.follows i).knows in
+        record {
+          knows = record { named = knows.named; asked = knows.asked; seen = knows.seen; owed = knows.owed };
+          at = subst (λ (stage : Stage). IsAt stage (fences i).known c.store shown_anew) (sym relists.asked) (relisting.0, relisting.1);
+        }
+
+    relists-well : Comes_well who (Relists i list) fences c past
+    relists-well = record {
+      may = (may-list, tt);
+      kept = one-comes (Does i anew) may-list (by-bridge (λ j x. Follows who j (fences j) c.store x) i shown_anew c.bridges own-shown kept.follows);
     }
 
   -- a fence is told something
@@ -158,6 +256,7 @@ module _ (who : Directory) (fences : ℕ → Fence) (c : Cluster) (past : List S
     kept = one-comes happening may.1 (λ j. outside-follows happening may.0 c kept.fenced may.1 who j (fences j) (kept.follows j));
   }
   comes-well (Lists i list) may = lists-well i list may
+  comes-well (Relists i list) may = relists-well i list may
   comes-well (Goes i move) may = goes-well i move may
   comes-well (Tells i input) told = tells-well i input told
 
@@ -177,7 +276,12 @@ fences_are_safe class store who names comings good named all =
       earlier = λ old has. absurd (contains-none old has);
       follows = λ j.
           record {
-            knows = record { named = named j; asked = refl; seen = λ lease is. (let e : None ≡ Some lease = is in absurd (cc)) };
+            knows = record {
+              named = named j;
+              asked = refl;
+              seen = λ lease is. (let e : None ≡ Some lease = is in absurd (cc));
+              owed = λ put has. absurd (contains-none put has);
+            };
             at = (refl, refl);
           };
     } in

@@ -1,11 +1,13 @@
 -- A fence stands for its bridge, whatever else happens.
-use Rattle.std.proofs.Common.{◌≡◌, ◌≢◌, ℕ, ◌<◌, ◌+◌, Bool, true, false, refl, sym, ap, subst, ◌∙◌, arith}
+use Rattle.std.proofs.Common.{◌≡◌, ◌≢◌, ℕ, ◌<◌, ◌+◌, Bool, true, false, List, Some, None, ⊎_elim, inl, inr, refl, sym, ap, subst, ◌∙◌, arith}
+use Rattle.std.specs.List.{Contains}
 use Rattle.kube_model.specs.declared.key.Key.{Key}
+use Rattle.kube_model.specs.declared.put.Put.{Put}
 use Rattle.status_store.specs.Changes.{StoreValue}
 use Rattle.world_rules.specs.World.{next_put}
 use Rattle.fence_rules.specs.Cluster as clusters
 use Rattle.fence_rules.specs.Cluster.{Ask, Bridge, Cluster, Happening, Edits, Carries, Changes, Gives, Reads, Asks, Starts, Does, Hears, GivesUp}
-use Rattle.fence_rules.specs.Cluster.{AreGone, IsGone, IsQuiet, MayHappen, after, carried_out, store_alone, world_of}
+use Rattle.fence_rules.specs.Cluster.{AreCovered, AreGone, IsGone, IsQuiet, MayHappen, after, carried_out, name_of, store_alone, world_of}
 use Rattle.fence_rules.specs.Fenced.{IsFenced}
 use Rattle.fence_rules.proofs.Gone.{gone-all, gone-edit, gone-put}
 use Rattle.fence_rules.proofs.Steps.{by-bridge, store-of}
@@ -13,8 +15,8 @@ use Rattle.fence_rules.proofs.Worlds.{edit-core}
 use Rattle.put_fence.specs.declared.fence.Fence.{Fence}
 use Rattle.put_fence.specs.declared.known.Known.{Known}
 use Rattle.put_fence.specs.declared.stage.Stage.{Stage}
-use Rattle.put_fence.specs.declared.stage.Stage.TheVariants.{Waiting, Fencing, Listing, Free, Naming, Sent, Checking, Lost}
-use Rattle.fence_laws.specs.Follows.{Directory, Follows, IsAt, name_at}
+use Rattle.put_fence.specs.declared.stage.Stage.TheVariants.{Waiting, Fencing, Listing, Free, Naming, Sent, Checking, Chasing, Relisting, Lost}
+use Rattle.fence_laws.specs.Follows.{Directory, Follows, IsAt, name_at, names_of}
 use Rattle.fence_laws.specs.Runs.{IsOutside}
 
 -- what is gone stays so, whatever happens
@@ -37,6 +39,7 @@ pub record IsLike (b next : Bridge) : Type 0 where
   pub seen : next.seen ≡ b.seen
   pub ask : next.ask ≡ b.ask
   pub core : next.core ≡ b.core
+  pub late : next.late ≡ b.late
   pub free : b.phase ≡ clusters.Free → next.phase ≡ clusters.Free
   pub out : b.phase ≢ clusters.Free → next.phase ≢ clusters.Free
 
@@ -65,10 +68,18 @@ module _ (old new : StoreValue) (gone : (n : Key × ℕ) → IsGone old n → Is
     gone = subst (AreGone new) (sym (like-named b next like)) (gone-all old new gone b.seen.named at.gone);
   }
   like-at (Free call) k at = like.free at
-  like-at (Naming put call) k at = record { free = like.free at.free; wants = ap next_put like.core ∙ at.wants }
+  like-at (Naming put call) k at = record { free = like.free at.free; wants = ap next_put like.core ∙ at.wants; unowed = at.unowed }
   like-at (Sent put) k at = record { out = like.out at.out; wants = ap next_put like.core ∙ at.wants }
-  like-at (Checking put call) k at = record { out = like.out at.out; wants = ap next_put like.core ∙ at.wants }
+  like-at (Checking put call tries) k at = record { out = like.out at.out; wants = ap next_put like.core ∙ at.wants }
+  like-at (Chasing call None) k at = like.free at
+  like-at (Chasing call (Some put)) k at = record { free = like.free at.free; wants = ap next_put like.core ∙ at.wants; unowed = at.unowed }
+  like-at Relisting k at = (like.free at.0, at.1)
   like-at Lost k at = tt
+
+  like-covered : (named : clusters.Named) → AreCovered old named b.late → AreCovered new named next.late
+  like-covered named covered put has =
+      ⊎_elim (λ (g : IsGone old (name_of put)). inl (gone (name_of put) g)) (λ (n : Contains named (name_of put)). inr n)
+      (covered put (subst (λ (puts : List Put). Contains puts put) like.late has))
 
   pub like-follows : (who : Directory) (i : ℕ) (f : Fence) → Follows who i f old b → Follows who i f new next
   like-follows who i f follows = record {
@@ -76,6 +87,7 @@ module _ (old new : StoreValue) (gone : (n : Key × ℕ) → IsGone old n → Is
       named = follows.knows.named;
       asked = like.ask ∙ follows.knows.asked;
       seen = λ lease is. like.seen ∙ follows.knows.seen lease is;
+      owed = like-covered (names_of f.known.owed) follows.knows.owed;
     };
     at = like-at f.stage f.known follows.at;
   }
@@ -93,17 +105,18 @@ carried-out true version (clusters.Carried earlier) out = out
 carried-out false version phase out = out
 
 same-like : (b : Bridge) → IsLike b b
-same-like b = record { seen = refl; ask = refl; core = refl; free = λ e. e; out = λ e. e }
+same-like b = record { seen = refl; ask = refl; core = refl; late = refl; free = λ e. e; out = λ e. e }
 
 -- what comes from outside leaves each bridge like before
 outside-like : (happening : Happening) → IsOutside happening → (c : Cluster) → MayHappen happening c → (j : ℕ)
     → IsLike (c.bridges j) ((after happening c).bridges j)
 outside-like (Edits move) is c may j =
-    record { seen = refl; ask = refl; core = edit-core move may.0 (world_of c.class c.store (c.bridges j)); free = λ e. e; out = λ e. e }
+    record { seen = refl; ask = refl; core = edit-core move may.0 (world_of c.class c.store (c.bridges j)); late = refl; free = λ e. e; out = λ e. e }
 outside-like (Carries by put) is c may j = record {
   seen = refl;
   ask = refl;
   core = refl;
+  late = refl;
   free = carried-free _ (c.store.counter + 1) (c.bridges j).phase;
   out = carried-out _ (c.store.counter + 1) (c.bridges j).phase;
 }
@@ -111,7 +124,7 @@ outside-like (Changes by ask version) is c may j = same-like (c.bridges j)
 outside-like (Gives i) is c may j =
     let b = c.bridges i in
     by-bridge (λ j x. IsLike (c.bridges j) x) i (record b { given = c.lease }) c.bridges
-    (record { seen = refl; ask = refl; core = refl; free = λ e. e; out = λ e. e }) (λ j. same-like (c.bridges j)) j
+    (record { seen = refl; ask = refl; core = refl; late = refl; free = λ e. e; out = λ e. e }) (λ j. same-like (c.bridges j)) j
 outside-like (Reads i) is c may j = absurd is
 outside-like (Asks i named) is c may j = absurd is
 outside-like (Starts i list) is c may j = absurd is

@@ -1,6 +1,6 @@
 -- When a fence stands for a bridge of a cluster, and what it does there.
-use Rattle.std.specs.Prelude.{◌≡◌, ◌≢◌, ◌<◌, ◌≤◌, ◌++◌, ℕ, true, List, [], ◌∷◌, map, Option, Some}
-use Rattle.std.specs.Prelude.{None, slice_get, ⊤}
+use Rattle.std.specs.Prelude.{◌≡◌, ◌≢◌, ◌<◌, ◌≤◌, ◌++◌, ℕ, true, false, List, [], ◌∷◌, map}
+use Rattle.std.specs.Prelude.{Option, Some, None, slice_get, ⊤}
 use Rattle.std.specs.List.{Contains}
 use Rattle.kube_model.specs.declared.key.Key.{Key}
 use Rattle.kube_model.specs.declared.put.Put.{Put}
@@ -14,7 +14,8 @@ use Rattle.world_rules.specs.Moves.{Turns}
 use Rattle.world_rules.specs.World.{next_put}
 use Rattle.fence_rules.specs.Cluster as clusters
 use Rattle.fence_rules.specs.Cluster.{Bridge, Cluster, Happening, Named, Asks, Carried, Does}
-use Rattle.fence_rules.specs.Cluster.{GivesUp, Hears, Reads, Sends, AreGone, IsGone, IsQuiet}
+use Rattle.fence_rules.specs.Cluster.{GivesUp, Hears, Reads, Sends, AreCovered, AreGone, IsGone}
+use Rattle.fence_rules.specs.Cluster.{IsQuiet}
 use Rattle.put_fence.specs.declared.answer.Answer.{Answer}
 use Rattle.put_fence.specs.declared.answer.Answer.TheVariants as answers
 use Rattle.put_fence.specs.declared.answer.Input.{Input}
@@ -33,7 +34,8 @@ use Rattle.put_fence.specs.declared.stage.LeaseCall.TheVariants.{Idle, Read, Cha
 use Rattle.put_fence.specs.declared.stage.Stage.{Stage}
 use Rattle.put_fence.specs.declared.stage.Stage.TheVariants.{Waiting, Fencing, Listing, Free}
 use Rattle.put_fence.specs.declared.stage.Stage.TheVariants.{Naming, Sent, Checking, Lost}
-use Rattle.put_fence.specs.Fences.{checked, named_in}
+use Rattle.put_fence.specs.declared.stage.Stage.TheVariants.{Chasing, Relisting}
+use Rattle.put_fence.specs.Fences.{checked, is_owed, named_in}
 
 -- ---- the same in a fence and in a cluster
 
@@ -54,11 +56,14 @@ lease_of who lease =
 abbrev pub ask_of : Asked → clusters.Ask
 ask_of asked = record { at = asked.at; named = names_of asked.named }
 
--- its name is that of the bridge, which knows as much of the Lease
-pub record Knows (who : Directory) (i : ℕ) (k : Known) (b : Bridge) : Type 0 where
+-- Its name is that of the bridge, which knows as much of the Lease; and what the bridge gave up is
+-- gone, or owed.
+pub record Knows (who : Directory) (i : ℕ) (k : Known) (store : StoreValue) (b : Bridge)
+    : Type 0 where
   pub named : who k.name ≡ i
   pub asked : b.ask ≡ ask_of k.asked
   pub seen : (lease : Lease) → k.seen ≡ Some lease → b.seen ≡ lease_of who lease
+  pub owed : AreCovered store (names_of k.owed) b.late
 
 -- what was named before this place is gone
 abbrev pub AreGoneBefore : ℕ → StoreValue → List ServiceVersion → Type 0
@@ -78,10 +83,11 @@ pub record IsListing (store : StoreValue) (b : Bridge) : Type 0 where
   pub quiet : IsQuiet b
   pub gone : AreGone store b.seen.named
 
--- its program wants this put, which isn't sent
-pub record IsNaming (put : Put) (b : Bridge) : Type 0 where
+-- its program wants this put, which isn't sent, and none of its service is owed
+pub record IsNaming (put : Put) (k : Known) (b : Bridge) : Type 0 where
   pub free : b.phase ≡ clusters.Free
   pub wants : next_put b.core ≡ Some put
+  pub unowed : is_owed put k ≡ false
 
 -- and which is sent
 pub record IsOut (put : Put) (b : Bridge) : Type 0 where
@@ -94,15 +100,18 @@ IsAt (Waiting call) k store b = (b.core ≡ None) × (b.phase ≡ clusters.Free)
 IsAt (Fencing call next) k store b = IsFencing next k store b
 IsAt Listing k store b = IsListing store b
 IsAt (Free call) k store b = b.phase ≡ clusters.Free
-IsAt (Naming put call) k store b = IsNaming put b
+IsAt (Naming put call) k store b = IsNaming put k b
 IsAt (Sent put) k store b = IsOut put b
-IsAt (Checking put call) k store b = IsOut put b
+IsAt (Checking put call tries) k store b = IsOut put b
+IsAt (Chasing call None) k store b = b.phase ≡ clusters.Free
+IsAt (Chasing call (Some put)) k store b = IsNaming put k b
+IsAt Relisting k store b = (b.phase ≡ clusters.Free) × (k.owed ≡ [])
 IsAt Lost k store b = ⊤
 
 -- The fence stands for this bridge.
 pub record Follows (who : Directory) (i : ℕ) (f : Fence) (store : StoreValue) (b : Bridge)
     : Type 0 where
-  pub knows : Knows who i f.known b
+  pub knows : Knows who i f.known store b
   pub at : IsAt f.stage f.known store b
 
 -- ---- what is relied on of what it is told
@@ -136,7 +145,9 @@ IsStoredAt version Listing b = ⊤
 IsStoredAt version (Free call) b = ⊤
 IsStoredAt version (Naming put call) b = ⊤
 IsStoredAt version (Sent put) b = b.phase ≡ Carried version
-IsStoredAt version (Checking put call) b = ⊤
+IsStoredAt version (Checking put call tries) b = ⊤
+IsStoredAt version (Chasing call put) b = ⊤
+IsStoredAt version Relisting b = ⊤
 IsStoredAt version Lost b = ⊤
 
 -- An answer tells what the store held at some moment so far, and of the Lease what the API server
@@ -155,6 +166,8 @@ abbrev pub IsTold : Directory → List StoreValue → Input → Fence → Bridge
 IsTold who past inputs.Tick f b = ⊤
 IsTold who past inputs.Renew f b = ⊤
 IsTold who past (inputs.Lapsed version) f b = ⊤
+IsTold who past inputs.Chase f b = ⊤
+IsTold who past inputs.Relist f b = ⊤
 IsTold who past (inputs.Put put) f b = next_put b.core ≡ Some put
 IsTold who past (inputs.Answer answer) f b = IsAnswer who past answer f.stage f.known b
 
@@ -174,13 +187,17 @@ reads_at i (Naming put Idle) = []
 reads_at i (Naming put Read) = Reads i ∷ []
 reads_at i (Naming put Change) = Reads i ∷ []
 reads_at i (Sent put) = []
-reads_at i (Checking put call) = []
+reads_at i (Checking put call tries) = []
+reads_at i (Chasing call put) = []
+reads_at i Relisting = []
 reads_at i Lost = []
 
 abbrev pub read_of : ℕ → Input → Stage → List Happening
 read_of i inputs.Tick stage = []
 read_of i inputs.Renew stage = []
 read_of i (inputs.Lapsed version) stage = []
+read_of i inputs.Chase stage = []
+read_of i inputs.Relist stage = []
 read_of i (inputs.Put put) stage = []
 read_of i (inputs.Answer (answers.Lease lease)) stage = reads_at i stage
 read_of i (inputs.Answer (answers.At version)) stage = []
@@ -197,7 +214,9 @@ put_of Listing = None
 put_of (Free call) = None
 put_of (Naming put call) = Some put
 put_of (Sent put) = Some put
-put_of (Checking put call) = Some put
+put_of (Checking put call tries) = Some put
+put_of (Chasing call put) = put
+put_of Relisting = None
 put_of Lost = None
 
 abbrev pub sends : ℕ → Option Put → List Happening

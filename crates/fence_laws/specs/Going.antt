@@ -62,7 +62,12 @@ FencesGoOn = (class : Option (List ℕ)) (store : StoreValue) (list : List Event
 abbrev pub holder : Fence
 holder = record {
   known =
-      record { name = name_of 1; seen = Some (held 2 1); asked = record { at = 1; named = [] } };
+      record {
+        name = name_of 1;
+        seen = Some (held 2 1);
+        asked = record { at = 1; named = [] };
+        owed = [];
+      };
   stage = stages.Free Idle;
 }
 

@@ -21,7 +21,7 @@ lease_has_float k = rw (no_float k.asked.named) refl
 pub check_has_float : (op : List ℕ) (n : ServiceVersion) → has_float (check_data op n) ≡ false
 check_has_float op n = refl
 
--- one more value behind those of the services so far
+-- one more value after those of the services so far
 pub services_more : (values more : List Value) (value : Value) (named : List ServiceVersion) (i : ℕ) (n : ServiceVersion) → more ≡ values ++ value ∷ []
     → i < length named → n ≡ get_or named i n → view value ≡ service_data n → map view values ≡ map service_data (take i named)
     → map view more ≡ map service_data (take (i + 1) named)

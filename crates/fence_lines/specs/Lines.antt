@@ -22,6 +22,7 @@ use Rattle.put_fence.specs.declared.output.Request.TheVariants as requests
 use Rattle.put_fence.specs.declared.stage.Stage.{Stage}
 use Rattle.put_fence.specs.declared.stage.Stage.TheVariants.{Waiting, Fencing, Listing, Free}
 use Rattle.put_fence.specs.declared.stage.Stage.TheVariants.{Naming, Sent, Checking, Lost}
+use Rattle.put_fence.specs.declared.stage.Stage.TheVariants.{Chasing, Relisting}
 use Rattle.put_fence.specs.Fences.{checked}
 use Rattle.put_fence.specs.Fields.{input_of}
 
@@ -97,7 +98,9 @@ patch_text Listing = None
 patch_text (Free call) = None
 patch_text (Naming put call) = None
 patch_text (Sent put) = Some (put_text put)
-patch_text (Checking put call) = None
+patch_text (Checking put call tries) = None
+patch_text (Chasing call put) = None
+patch_text Relisting = None
 patch_text Lost = None
 
 abbrev pub request_text : Request → Fence → Option (List ℕ)

@@ -19,7 +19,7 @@ fn input_in(alloc: Global, value: &Value) -> Result<Input, FieldFault>
 /// What the line tells a fence.
 ///
 /// `NotJson` where the line is no JSON text (RFC 8259) that is nested at most 127 deep; `Field`
-/// with the path of the first field that isn't as stated; `NotEvent` never.
+/// with the path of the first field that is invalid; `NotEvent` never.
 #[tactic(auto, unfolding(crate::specs::Lines::input_of_line))]
 pub fn read_input(alloc: Global, line: &[u8]) -> Result<Input, EventFault>
     ensures { GivesInput result (input_of_line line.now) }

@@ -117,11 +117,16 @@ fn checked_line(alloc: Global, op: &str, fence: &Fence) -> Result<Option<Text>, 
             None => Ok(None),
         },
         Stage::Checking { put, .. } => Ok(Some(check_line(alloc, op, &put.key, put.version)?)),
+        Stage::Chasing { .. } => match fence.known.first_owed() {
+            Some(n) => Ok(Some(check_line(alloc, op, &n.key, n.version)?)),
+            None => Ok(None),
+        },
         Stage::Waiting { .. }
         | Stage::Listing
         | Stage::Free { .. }
         | Stage::Naming { .. }
         | Stage::Sent { .. }
+        | Stage::Relisting
         | Stage::Lost => Ok(None),
     }
 }
@@ -138,6 +143,8 @@ fn patch_line(alloc: Global, stage: &Stage) -> Result<Option<Text>, NoMemory>
         | Stage::Free { .. }
         | Stage::Naming { .. }
         | Stage::Checking { .. }
+        | Stage::Chasing { .. }
+        | Stage::Relisting
         | Stage::Lost => Ok(None),
     }
 }

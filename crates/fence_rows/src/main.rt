@@ -1,10 +1,12 @@
-//! What fences come to, row by row. A row that begins with `#` says what follows, and is written as it stands.
+//! What fences come to, row by row. A row that begins with `#` says what follows, and is written as
+//! it stands.
 //!
 //! - `start NAME`: a fence of this name begins.
 //! - `put NAMESPACE NAME VERSION`: its program wants a put without addresses of this service at this version.
 //! - An object: what the fence is told.
 //!
-//! Each is answered by the line that is written, by what the program hears, or by `nothing`; or by why the row is none.
+//! Each is answered by the line that is written, by what the program hears, or by `nothing`; or by
+//! why the row is none.
 #![tactic(auto)]
 
 mod case;

@@ -62,6 +62,12 @@ down-entries (ServicesExpire list) is w down = rw down refl
 down-entries (EndsLater before event behind) is w down = refl
 down-entries (Lands put) is w down = absurd is
 
+pub carried-free : (here : Bool) (version : ℕ) (phase : Phase) → phase ≡ Free → carried_out here version phase ≡ Free
+carried-free true version Free e = refl
+carried-free true version Sent e = absurd (cc)
+carried-free true version (Carried earlier) e = e
+carried-free false version phase e = e
+
 module _ (class : Option (List ℕ)) where
   own-runs : (move : Move) → IsOwnMove move → (w : WorldValue) (run : List TranscriptEntry) → w.class ≡ class
       → ((w.core ≡ None) × (run ≡ [])) ⊎ RunsAs class w.core run
@@ -107,12 +113,6 @@ module _ (class : Option (List ℕ)) where
   free-waiting : (core : Option State) → IsWaiting Free core
   free-waiting core out = absurd (out refl)
 
-  carried-free : (here : Bool) (version : ℕ) (phase : Phase) → phase ≡ Free → carried_out here version phase ≡ Free
-  carried-free true version Free e = refl
-  carried-free true version Sent e = absurd (cc)
-  carried-free true version (Carried earlier) e = e
-  carried-free false version phase e = e
-
   started-runs : (core : Option State) (of_class : Option (List ℕ)) (run : List TranscriptEntry) → core ≡ None → of_class ≡ class
       → ((core ≡ None) × (run ≡ [])) ⊎ RunsAs class core run → RunsAs class (Some (fresh of_class)) run
   started-runs core of_class run down of is =
@@ -134,7 +134,7 @@ module _ (class : Option (List ℕ)) where
       }
   step-run (Carries by put) c j run may of is = record {
     runs = is.runs;
-    waiting = λ out. is.waiting (λ free. out (carried-free (eqb j by) (c.store.counter + 1) (c.bridges j).phase free));
+    waiting = λ out. is.waiting (λ free. out (carried-free _ (c.store.counter + 1) (c.bridges j).phase free));
   }
   step-run (Changes by ask version) c j run may of is = is
   step-run (Gives i) c j run may of is =
@@ -149,7 +149,7 @@ module _ (class : Option (List ℕ)) where
       (λ own. record { runs = own.runs; waiting = own.waiting })
   step-run (Starts i list) c j run may of is =
       let b = c.bridges i in
-      one-quiet i j (record b { core = Some (fresh c.class); lane = list; given = b.seen; phase = Free }) c run (eqb j i) refl is
+      one-quiet i j (record b { core = Some (fresh c.class); lane = list; given = b.seen; phase = Free; late = [] }) c run (eqb j i) refl is
       (λ own. record { runs = inr (started-runs b.core c.class run may.down of own.runs); waiting = free-waiting (Some (fresh c.class)) })
   step-run (Does i move) c j run may of is =
       let b = c.bridges i in
@@ -168,7 +168,7 @@ module _ (class : Option (List ℕ)) where
       })
   step-run (GivesUp i put) c j run may of is =
       let b = c.bridges i in
-      one-heard i j (record b { core = answered b.core replies.Unknown; phase = Free }) c (entries_heard b.core replies.Unknown) run (eqb j i) refl is
+      one-heard i j (record b { core = answered b.core replies.Unknown; phase = Free; late = put ∷ b.late }) c (entries_heard b.core replies.Unknown) run (eqb j i) refl is
       (λ own. record {
         runs = inr (heard-runs b.core run replies.Unknown (ap is_some may.wants) own.runs);
         waiting = free-waiting (answered b.core replies.Unknown);

@@ -1,9 +1,16 @@
 -- Puts are made, and the Lease is taken over.
-use Rattle.std.proofs.Common.{◌≡◌, ◌<◌, ◌+◌, [], ◌∷◌, inl, inr, refl, sym, ap, subst, ◌∙◌, arith}
-use Rattle.mlb_base.proofs.Among.{contains-first}
-use Rattle.fence_rules.specs.Cluster.{Ask, Lease, AreGone, name_of}
+use Rattle.std.proofs.Common.{◌≡◌, ◌<◌, ◌+◌, Bool, List, [], ◌∷◌, inl, inr, refl, sym, ap, subst, ◌∙◌, arith}
+use Rattle.std.specs.List.{Contains}
+use Rattle.mlb_base.proofs.Among.{contains-first, contains-none}
+use Rattle.kube_model.specs.declared.put.Put.{Put}
+use Rattle.fence_rules.specs.Cluster.{Ask, Lease, Sent, AreGone, carried_out, is_awaited, name_of}
 use Rattle.fence_rules.specs.Going.{LeasesAreTakenOver, PutsAreMade}
+use Rattle.fence_rules.proofs.Sending.{awaited-itself}
 use Rattle.fence_rules.proofs.Steps.{wants-up}
+
+-- nothing is in an empty list
+pub not-late : (late : List Put) → late ≡ [] → (put : Put) → Contains late put → ⊥
+not-late late e put has = contains-none put (subst (λ (puts : List Put). Contains puts put) e has)
 
 pub puts_are_made : PutsAreMade
 puts_are_made c put can =
@@ -12,7 +19,7 @@ puts_are_made c put can =
     let at : b.seen.version ≡ c.lease.version = ap (λ (l : Lease). l.version) can.known in
     let more : b.seen.version < c.lease.version + 1 = omega (arith, at) in (
       (
-        record { quiet = can.quiet; own = inr (ap (λ (l : Lease). l.holder) can.known ∙ can.holds); names = inr (can.free, wants-up b.core put can.wants) },
+        record { quiet = can.quiet; own = inr (ap (λ (l : Lease). l.holder) can.known ∙ can.holds); names = inr (can.free, wants-up b.core put can.wants, λ other has. absurd (not-late b.late can.none other has)) },
         (
           (contains-first (0, ask) c.asks, at, omega arith),
           (
@@ -20,8 +27,18 @@ puts_are_made c put can =
             (
               tt,
               (
-                record { free = can.free; wants = can.wants; quiet = more; own = refl; named = contains-first (name_of put) [] },
-                ((contains-first (0, put) c.sent, can.current), (refl, tt)),
+                record {
+                  free = can.free;
+                  wants = can.wants;
+                  quiet = more;
+                  own = refl;
+                  named = contains-first (name_of put) [];
+                  unowed = λ other has. absurd (not-late b.late can.none other has);
+                },
+                (
+                  (contains-first (0, put) c.sent, can.current),
+                  (ap (λ (here : Bool). carried_out here (c.store.counter + 1) Sent) (ap (is_awaited put) can.wants ∙ awaited-itself put), tt),
+                ),
               ),
             ),
           ),

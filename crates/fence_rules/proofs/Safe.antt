@@ -1,11 +1,13 @@
 -- However many controllers there are, the store stays safe.
-use Rattle.std.proofs.Common.{◌≡◌, ℕ, List, [], ◌∷◌, Option, inl, refl, arith}
+use Rattle.std.proofs.Common.{◌≡◌, ℕ, List, [], ◌∷◌, Option, None, inl, ⊎_elim, refl, arith}
+use Rattle.std.specs.List.{Contains}
 use Rattle.mlb_base.proofs.Among.{contains-none}
 use Rattle.status_store.specs.Changes.{StoreValue}
 use Rattle.world_rules.specs.Good.{IsGoodStore}
-use Rattle.fence_rules.specs.Cluster.{Cluster, Free, Sent, Happening, Edits, Carries, Changes, Gives, Reads, Asks, Starts, Does, Sends, Hears, GivesUp}
+use Rattle.world_rules.proofs.Landing.{none-expected}
+use Rattle.fence_rules.specs.Cluster.{Cluster, Free, Sent, Carried, Happening, Edits, Carries, Changes, Gives, Reads, Asks, Starts, Does, Sends, Hears, GivesUp}
 use Rattle.fence_rules.specs.Cluster.{ClustersAreSafe, IsSafeThroughout, MayAllHappen, after, first_bridge, first_cluster, first_lease}
-use Rattle.fence_rules.specs.Fenced.{IsFenced, IsKept, HappeningsKeepFenced}
+use Rattle.fence_rules.specs.Fenced.{IsFenced, IsKept, IsOut, HappeningsKeepFenced}
 use Rattle.fence_rules.proofs.Sending.{sends, changes, edits, carries}
 use Rattle.fence_rules.proofs.Steps.{store-of, gives, reads, asks, starts, does, hears, gives-up}
 
@@ -29,17 +31,21 @@ first-kept store j = record {
   below = omega arith;
   single = λ up at. absurd (up refl);
   fits = λ at. (let e : 0 ≡ 1 = at in absurd (omega (arith, e)));
+  carried = λ version put is wants. (let e : Free ≡ Carried version = is in absurd (cc));
+  apart = λ put other out has same. absurd (contains-none other has);
+  none = λ down put has. contains-none put has;
 }
 
 pub first-fenced : (class : Option (List ℕ)) (store : StoreValue) → IsGoodStore store → IsFenced (first_cluster class store)
 first-fenced class store good = record {
   active = 0;
-  good = record { stored = good; up = tt };
+  good = (record { stored = good; up = tt }, none-expected store None);
   each = first-kept store;
   holder = inl refl;
   asked = λ by ask has. absurd (contains-none (by, ask) has);
   sent = λ by put has. absurd (contains-none (by, put) has);
-  out = λ put out. (let e : Free ≡ Sent = out.sent in absurd (cc));
+  out = λ put pending.
+      ⊎_elim (λ (out : IsOut first_bridge put). (let e : Free ≡ Sent = out.sent in absurd (cc))) (λ (has : Contains [] put). absurd (contains-none put has)) pending;
 }
 
 safe-throughout : (happenings : List Happening) (c : Cluster) → MayAllHappen happenings c → IsFenced c → IsSafeThroughout happenings c

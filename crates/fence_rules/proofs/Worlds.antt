@@ -1,6 +1,8 @@
 -- The world of one program among many: it stays good, whatever happens.
-use Rattle.std.proofs.Common.{◌≡◌, ◌≢◌, ℕ, ◌+◌, Bool, true, false, cond, List, [], ◌∷◌, ◌++◌, Option, Some, None, option_map, refl, sym, ap, subst, append-nil}
+use Rattle.std.proofs.Common.{◌≡◌, ◌≢◌, ℕ, ◌+◌, Bool, true, false, cond, List, [], ◌∷◌, ◌++◌, Option, Some, None, option_map, refl, sym, ap, subst, ◌∙◌, append-nil}
 use Rattle.std.proofs.lemmas.Bool.{true≢false}
+use Rattle.std.proofs.lemmas.List.Elements.{Contains-append_right}
+use Rattle.std.specs.List.{Contains}
 use Rattle.kube_model.specs.declared.event.Event.{Event}
 use Rattle.kube_model.specs.declared.event.ListGroup.TheVariants as groups
 use Rattle.kube_model.specs.declared.put.Put.{Put}
@@ -19,21 +21,40 @@ use Rattle.core_rules.specs.Replied.{core_reply}
 use Rattle.core_rules.specs.Take.{core_take}
 use Rattle.core_rules.specs.Turn.{core_turn, after_turn, put_in}
 use Rattle.core_laws.specs.Shared.{AllShowTerms}
+use Rattle.world_rules.specs.Expected.{AreExpected}
 use Rattle.world_rules.specs.Good.{IsGood, IsGoodStore}
 use Rattle.world_rules.specs.Moves.{Move, Sets, Deletes, Tells, Takes, Turns, Stops, Starts, ConfigExpires, ServicesExpire, EndsLater, Lands}
-use Rattle.world_rules.specs.Moves.{IsMove, after_move, entries_of, stored_with}
+use Rattle.world_rules.specs.Moves.{IsMove, after_move, entries_of, given_up, puts_in, stored_with}
 use Rattle.world_rules.specs.World.{WorldValue, as_shown, next_put, shown_edit, shown_put, to_lane, told, turned, after_turning, expired_core, while_up}
-use Rattle.world_rules.proofs.Landing.{none-expected}
 use Rattle.world_rules.proofs.Turns.{good-turn}
-use Rattle.world_rules.proofs.Worlds.{good-else, good-move}
-use Rattle.fence_rules.specs.Cluster.{Phase, Free, Sent, Carried, IsEdit, IsOwnMove, IsUnsent, answered, world_with}
-use Rattle.fence_rules.specs.Fenced.{IsGoodIn}
+use Rattle.world_rules.proofs.Worlds.{good-else, good-move, late-move}
+use Rattle.fence_rules.specs.Cluster.{Phase, Free, Sent, Carried, AreOver, IsEdit, IsOwnMove, IsUnsent, MayList, answered, world_with}
+use Rattle.fence_rules.specs.Fenced.{IsGoodIn, IsGoodWith}
 
-pub good-store : (phase : Phase) (class : Option (List ℕ)) (store : StoreValue) (lane : List Event) (core : Option State)
-    → IsGoodIn phase class store lane core → IsGoodStore store
-good-store Free class store lane core good = good.stored
-good-store Sent class store lane core good = good.stored
-good-store (Carried version) class store lane core good = good.0.stored
+pub good-store : (phase : Phase) (class : Option (List ℕ)) (store : StoreValue) (lane : List Event) (core : Option State) (late : List Put)
+    → IsGoodIn phase class store lane core late → IsGoodStore store
+good-store Free class store lane core late good = good.0.stored
+good-store Sent class store lane core late good = good.0.stored
+good-store (Carried version) class store lane core late good = good.0.0.stored
+
+-- ---- puts that were given up
+fewer-expected : (store : StoreValue) (core : Option State) (more late : List Put) → AreExpected store core (more ++ late) → AreExpected store core late
+fewer-expected store core more late e = record {
+  counted = λ put has. e.counted put (Contains-append_right more late put has);
+  claimed = λ put has lands. e.claimed put (Contains-append_right more late put has) lands;
+  beside = λ put has lands. e.beside put (Contains-append_right more late put has) lands;
+  apart = λ put other has also lands then_lands.
+      e.apart put other (Contains-append_right more late put has) (Contains-append_right more late other also) lands then_lands;
+}
+
+-- of those that are gone nothing is asked
+over-expected : (store : StoreValue) (core : Option State) (late : List Put) → AreOver store late → AreExpected store core late
+over-expected store core late over = record {
+  counted = λ put has. (over put has).0;
+  claimed = λ put has lands. absurd (true≢false (sym lands ∙ (over put has).1));
+  beside = λ put has lands. absurd (true≢false (sym lands ∙ (over put has).1));
+  apart = λ put other has also lands then_lands. absurd (true≢false (sym lands ∙ (over put has).1));
+}
 
 -- ---- others edit the store
 while-answered : (core : Option State) (reply : PutReply) (events : List Event) → while_up core events ≡ while_up (answered core reply) events
@@ -77,48 +98,52 @@ edit-lane (ServicesExpire list) is class store lane core reply = absurd is
 edit-lane (EndsLater before event behind) is class store lane core reply = absurd is
 edit-lane (Lands put) is class store lane core reply = absurd is
 
-edit-one : (move : Move) → IsEdit move → (class : Option (List ℕ)) (store : StoreValue) (lane : List Event) (core : Option State)
-    → IsMove move (world_with class store [] None) [] → IsGood (world_with class store lane core)
-    → IsGood (world_with class (store_after move class store) (lane_after move class store lane core) core)
-edit-one (Sets object holding) is class store lane core may good =
-    let w = world_with class store lane core in
-    good-else (after_move (Sets object holding) w) [] (good-move (Sets object holding) w [] may tt (none-expected w.store w.core) good)
-edit-one (Deletes kind key) is class store lane core may good =
-    let w = world_with class store lane core in
-    good-else (after_move (Deletes kind key) w) [] (good-move (Deletes kind key) w [] may tt (none-expected w.store w.core) good)
-edit-one (Tells event) is class store lane core may good = absurd is
-edit-one Takes is class store lane core may good = absurd is
-edit-one (Turns outcome) is class store lane core may good = absurd is
-edit-one (Stops applied) is class store lane core may good = absurd is
-edit-one (Starts list) is class store lane core may good = absurd is
-edit-one ConfigExpires is class store lane core may good = absurd is
-edit-one (ServicesExpire list) is class store lane core may good = absurd is
-edit-one (EndsLater before event behind) is class store lane core may good = absurd is
-edit-one (Lands put) is class store lane core may good = absurd is
+edit-one : (move : Move) → IsEdit move → (class : Option (List ℕ)) (store : StoreValue) (lane : List Event) (core : Option State) (late : List Put)
+    → IsMove move (world_with class store [] None) [] → IsGoodWith class store lane core late
+    → IsGoodWith class (store_after move class store) (lane_after move class store lane core) core late
+edit-one (Sets object holding) is class store lane core late may good =
+    let w = world_with class store lane core in (
+      good-else (after_move (Sets object holding) w) [] (good-move (Sets object holding) w late may tt good.1 good.0),
+      late-move (Sets object holding) w late may good.1 good.0,
+    )
+edit-one (Deletes kind key) is class store lane core late may good =
+    let w = world_with class store lane core in (
+      good-else (after_move (Deletes kind key) w) [] (good-move (Deletes kind key) w late may tt good.1 good.0),
+      late-move (Deletes kind key) w late may good.1 good.0,
+    )
+edit-one (Tells event) is class store lane core late may good = absurd is
+edit-one Takes is class store lane core late may good = absurd is
+edit-one (Turns outcome) is class store lane core late may good = absurd is
+edit-one (Stops applied) is class store lane core late may good = absurd is
+edit-one (Starts list) is class store lane core late may good = absurd is
+edit-one ConfigExpires is class store lane core late may good = absurd is
+edit-one (ServicesExpire list) is class store lane core late may good = absurd is
+edit-one (EndsLater before event behind) is class store lane core late may good = absurd is
+edit-one (Lands put) is class store lane core late may good = absurd is
 
-edit-answered : (move : Move) → IsEdit move → (class : Option (List ℕ)) (store : StoreValue) (lane : List Event) (core : Option State) (reply : PutReply)
-    → IsMove move (world_with class store [] None) [] → IsGood (world_with class store lane (answered core reply))
-    → IsGood (world_with class (store_after move class store) (lane_after move class store lane core) (answered core reply))
-edit-answered move is class store lane core reply may good =
-    subst (λ (later : List Event). IsGood (world_with class (store_after move class store) later (answered core reply)))
-    (edit-lane move is class store lane core reply) (edit-one move is class store lane (answered core reply) may good)
+edit-answered : (move : Move) → IsEdit move → (class : Option (List ℕ)) (store : StoreValue) (lane : List Event) (core : Option State) (late : List Put) (reply : PutReply)
+    → IsMove move (world_with class store [] None) [] → IsGoodWith class store lane (answered core reply) late
+    → IsGoodWith class (store_after move class store) (lane_after move class store lane core) (answered core reply) late
+edit-answered move is class store lane core late reply may good =
+    subst (λ (later : List Event). IsGoodWith class (store_after move class store) later (answered core reply) late)
+    (edit-lane move is class store lane core reply) (edit-one move is class store lane (answered core reply) late may good)
 
-edit-phase : (phase : Phase) (move : Move) → IsEdit move → (class : Option (List ℕ)) (store : StoreValue) (lane : List Event) (core : Option State)
-    → IsMove move (world_with class store [] None) [] → IsGoodIn phase class store lane core
-    → IsGoodIn phase class (store_after move class store) (lane_after move class store lane core) core
-edit-phase Free move is class store lane core may good = edit-one move is class store lane core may good
-edit-phase Sent move is class store lane core may good = edit-one move is class store lane core may good
-edit-phase (Carried version) move is class store lane core may good = (
-  edit-answered move is class store lane core (replies.Ok version) may good.0,
-  edit-answered move is class store lane core replies.Unknown may good.1,
+edit-phase : (phase : Phase) (move : Move) → IsEdit move → (class : Option (List ℕ)) (store : StoreValue) (lane : List Event) (core : Option State) (late : List Put)
+    → IsMove move (world_with class store [] None) [] → IsGoodIn phase class store lane core late
+    → IsGoodIn phase class (store_after move class store) (lane_after move class store lane core) core late
+edit-phase Free move is class store lane core late may good = edit-one move is class store lane core late may good
+edit-phase Sent move is class store lane core late may good = edit-one move is class store lane core late may good
+edit-phase (Carried version) move is class store lane core late may good = (
+  edit-answered move is class store lane core late (replies.Ok version) may good.0,
+  edit-answered move is class store lane core (puts_in (next_put core) ++ late) replies.Unknown may good.1,
 )
 
-pub good-edit : (phase : Phase) (move : Move) → IsEdit move → (class : Option (List ℕ)) (store : StoreValue) (lane : List Event) (core : Option State)
-    → IsMove move (world_with class store [] None) [] → IsGoodIn phase class store lane core
-    → IsGoodIn phase class (store_after move class store) (lane_after move class store lane core) (after_move move (world_with class store lane core)).core
-good-edit phase move is class store lane core may good =
-    subst (IsGoodIn phase class (store_after move class store) (lane_after move class store lane core))
-    (sym (edit-core move is (world_with class store lane core))) (edit-phase phase move is class store lane core may good)
+pub good-edit : (phase : Phase) (move : Move) → IsEdit move → (class : Option (List ℕ)) (store : StoreValue) (lane : List Event) (core : Option State) (late : List Put)
+    → IsMove move (world_with class store [] None) [] → IsGoodIn phase class store lane core late
+    → IsGoodIn phase class (store_after move class store) (lane_after move class store lane core) (after_move move (world_with class store lane core)).core late
+good-edit phase move is class store lane core late may good =
+    subst (λ (next : Option State). IsGoodIn phase class (store_after move class store) (lane_after move class store lane core) next late)
+    (sym (edit-core move is (world_with class store lane core))) (edit-phase phase move is class store lane core late may good)
 
 -- ---- what a program does without the store
 told-down : (core : Option State) (lane : List Event) → core ≡ None → told core lane ≡ None
@@ -153,6 +178,49 @@ stays-down ConfigExpires is w down = expired-down w.core down
 stays-down (ServicesExpire list) is w down = expired-down_services w.core down
 stays-down (EndsLater before event behind) is w down = down
 stays-down (Lands put) is w down = absurd is
+
+-- nor is one that runs stopped by it
+mapped-up : (core : Option State) (f : State → State) → option_map f core ≡ None → core ≡ None
+mapped-up None f down = refl
+mapped-up (Some s) f down = absurd (cc)
+
+told-up : (core : Option State) (lane : List Event) → told core lane ≡ None → core ≡ None
+told-up None lane down = refl
+told-up (Some s) [] down = absurd (cc)
+told-up (Some s) (event ∷ more) down = absurd (cc)
+
+turned-up : (found : Option Put) (s : State) (outcome : Outcome) (w : WorldValue) → (turned s found outcome w).core ≡ None → ⊥
+turned-up None s outcome w down = absurd (cc)
+turned-up (Some put) s outcome w down = absurd (cc)
+
+turning-up : (core : Option State) (outcome : Outcome) (w : WorldValue) → (after_turning core outcome w).core ≡ None → core ≡ None
+turning-up None outcome w down = refl
+turning-up (Some s) outcome w down = absurd (turned-up (put_in (core_turn s)) (after_turn s) outcome w down)
+
+expired-up : (core : Option State) → expired_core groups.Config core ≡ None → core ≡ None
+expired-up None down = refl
+expired-up (Some s) down = absurd (cc)
+
+expired-up_services : (core : Option State) → expired_core groups.Service core ≡ None → core ≡ None
+expired-up_services None down = refl
+expired-up_services (Some s) down = absurd (cc)
+
+pub stays-up : (move : Move) → IsOwnMove move → (w : WorldValue) → (after_move move w).core ≡ None → w.core ≡ None
+stays-up (Sets object holding) is w down = absurd is
+stays-up (Deletes kind key) is w down = absurd is
+stays-up (Tells event) is w down = mapped-up w.core (λ s. core_take s event) down
+stays-up Takes is w down = told-up w.core w.service_lane down
+stays-up (Turns outcome) is w down = turning-up w.core outcome w down
+stays-up (Stops applied) is w down = absurd is
+stays-up (Starts list) is w down = absurd is
+stays-up ConfigExpires is w down = expired-up w.core down
+stays-up (ServicesExpire list) is w down = expired-up_services w.core down
+stays-up (EndsLater before event behind) is w down = down
+stays-up (Lands put) is w down = absurd is
+
+pub answered-up : (core : Option State) (reply : PutReply) → answered core reply ≡ None → core ≡ None
+answered-up None reply down = refl
+answered-up (Some s) reply down = absurd (cc)
 
 pub answered-down : (core : Option State) (reply : PutReply) → core ≡ None → answered core reply ≡ None
 answered-down None reply down = refl
@@ -194,9 +262,27 @@ over v w same good =
     subst (λ (class : Option (List ℕ)). IsGood (world_with class w.store v.service_lane v.core)) same.class
     (subst (λ (store : StoreValue). IsGood (world_with v.class store v.service_lane v.core)) same.store (good-else v [] good))
 
-pub good-own : (move : Move) (w : WorldValue) → IsOwnMove move → IsMove move w [] → AllShowTerms (entries_of move w) → IsGood w
-    → IsGood (world_with w.class w.store (after_move move w).service_lane (after_move move w).core)
-good-own move w is may typed good = over (after_move move w) w (own-same move is w) (good-move move w [] may typed (none-expected w.store w.core) good)
+own-expected : (move : Move) (w : WorldValue) (late : List Put) → IsOwnMove move → IsMove move w late → MayList move w.store late → AreExpected w.store w.core late
+    → IsGood w → AreExpected w.store (after_move move w).core late
+own-expected (Sets object holding) w late is may listed e good = absurd is
+own-expected (Deletes kind key) w late is may listed e good = absurd is
+own-expected (Tells event) w late is may listed e good = late-move (Tells event) w late may e good
+own-expected Takes w late is may listed e good = late-move Takes w late may e good
+own-expected (Turns outcome) w late is may listed e good =
+    let next = after_move (Turns outcome) w in
+    subst (λ (store : StoreValue). AreExpected store next.core late) (turning-same w.core outcome w is).store
+    (fewer-expected next.store next.core (given_up outcome (next_put w.core)) late (late-move (Turns outcome) w late may e good))
+own-expected (Stops applied) w late is may listed e good = absurd is
+own-expected (Starts list) w late is may listed e good = absurd is
+own-expected ConfigExpires w late is may listed e good = late-move ConfigExpires w late may e good
+own-expected (ServicesExpire list) w late is may listed e good = over-expected w.store (expired_core groups.Service w.core) late listed
+own-expected (EndsLater before event behind) w late is may listed e good = late-move (EndsLater before event behind) w late may e good
+own-expected (Lands put) w late is may listed e good = absurd is
+
+pub good-own : (move : Move) (w : WorldValue) (late : List Put) → IsOwnMove move → IsMove move w late → AllShowTerms (entries_of move w) → MayList move w.store late
+    → IsGood w → AreExpected w.store w.core late → IsGoodWith w.class w.store (after_move move w).service_lane (after_move move w).core late
+good-own move w late is may typed listed good e =
+    (over (after_move move w) w (own-same move is w) (good-move move w late may typed e good), own-expected move w late is may listed e good)
 
 -- ---- its put is carried out, and answered
 made-reply : (found : Option Stored) (counter : ℕ) (put : Put) → is_at_version put.version found ≡ true
@@ -208,27 +294,75 @@ made-reply (Some held) counter put at = ap (λ (b : Bool). cond b (replies.Ok (c
 abbrev IsGoodPut : Option (List ℕ) → StoreValue → List Event → State → Outcome → Option Put → Type 0
 IsGoodPut class store lane s outcome found = IsGood (turned (after_turn s) found outcome (world_with class store lane (Some s)))
 
-pub good-carried : (core : Option State) (class : Option (List ℕ)) (store : StoreValue) (lane : List Event) (put : Put) → next_put core ≡ Some put
-    → is_made put Delivered store.objects ≡ true → IsGood (world_with class store lane core)
-    → IsGoodIn (Carried (store.counter + 1)) class (after_put put Delivered store) (lane ++ while_up core (shown_put put Delivered store)) core
-good-carried None class store lane put wants made good = absurd (cc)
-good-carried (Some s) class store lane put wants made good = (
-  subst (λ (reply : PutReply). IsGood (world_with class (after_put put Delivered store) (lane ++ shown_put put Delivered store)
-      (Some (core_reply (after_turn s) reply)))) (made-reply (stored_at store.objects (service_at put.key)) store.counter put made)
-      (subst (IsGoodPut class store lane s Delivered) wants (good-turn Delivered (world_with class store lane (Some s)) good)),
-  subst (IsGoodPut class store lane s (Lost true)) wants (good-turn (Lost true) (world_with class store lane (Some s)) good),
+-- and what is expected there
+abbrev IsLatePut : Option (List ℕ) → StoreValue → List Event → State → Outcome → List Put → Option Put → Type 0
+IsLatePut class store lane s outcome late found =
+    let w = turned (after_turn s) found outcome (world_with class store lane (Some s)) in AreExpected w.store w.core (given_up outcome found ++ late)
+
+late-turn : (outcome : Outcome) (class : Option (List ℕ)) (store : StoreValue) (lane : List Event) (s : State) (late : List Put) (put : Put)
+    → next_put (Some s) ≡ Some put → IsGoodWith class store lane (Some s) late → IsLatePut class store lane s outcome late (Some put)
+late-turn outcome class store lane s late put wants good =
+    subst (IsLatePut class store lane s outcome late) wants (late-move (Turns outcome) (world_with class store lane (Some s)) late tt good.1 good.0)
+
+pub good-carried : (core : Option State) (class : Option (List ℕ)) (store : StoreValue) (lane : List Event) (late : List Put) (put : Put) → next_put core ≡ Some put
+    → is_made put Delivered store.objects ≡ true → IsGoodWith class store lane core late
+    → IsGoodIn (Carried (store.counter + 1)) class (after_put put Delivered store) (lane ++ while_up core (shown_put put Delivered store)) core late
+good-carried None class store lane late put wants made good = absurd (cc)
+good-carried (Some s) class store lane late put wants made good = (
+  subst (λ (reply : PutReply). IsGoodWith class (after_put put Delivered store) (lane ++ shown_put put Delivered store)
+      (Some (core_reply (after_turn s) reply)) late) (made-reply (stored_at store.objects (service_at put.key)) store.counter put made) (
+        subst (IsGoodPut class store lane s Delivered) wants (good-turn Delivered (world_with class store lane (Some s)) good.0),
+        late-turn Delivered class store lane s late put wants good,
+      ),
+  (
+    subst (IsGoodPut class store lane s (Lost true)) wants (good-turn (Lost true) (world_with class store lane (Some s)) good.0),
+    subst (λ (found : Option Put). AreExpected (after_put put Delivered store) (Some (core_reply (after_turn s) replies.Unknown)) (puts_in found ++ late))
+        (sym wants) (late-turn (Lost true) class store lane s late put wants good),
+  ),
 )
 
-pub good-given_up : (core : Option State) (class : Option (List ℕ)) (store : StoreValue) (lane : List Event) (put : Put) → next_put core ≡ Some put
-    → IsGood (world_with class store lane core) → IsGood (world_with class store lane (answered core replies.Unknown))
-good-given_up None class store lane put wants good = absurd (cc)
-good-given_up (Some s) class store lane put wants good =
-    subst (λ (later : List Event). IsGood (world_with class store later (Some (core_reply (after_turn s) replies.Unknown)))) (append-nil lane)
-    (subst (IsGoodPut class store lane s (Lost false)) wants (good-turn (Lost false) (world_with class store lane (Some s)) good))
+pub good-given_up : (core : Option State) (class : Option (List ℕ)) (store : StoreValue) (lane : List Event) (late : List Put) (put : Put) → next_put core ≡ Some put
+    → IsGoodWith class store lane core late → IsGoodWith class store lane (answered core replies.Unknown) (put ∷ late)
+good-given_up None class store lane late put wants good = absurd (cc)
+good-given_up (Some s) class store lane late put wants good = (
+  subst (λ (later : List Event). IsGood (world_with class store later (Some (core_reply (after_turn s) replies.Unknown)))) (append-nil lane)
+      (subst (IsGoodPut class store lane s (Lost false)) wants (good-turn (Lost false) (world_with class store lane (Some s)) good.0)),
+  late-turn (Lost false) class store lane s late put wants good,
+)
 
 -- whatever phase its put is in
-pub good-unknown : (phase : Phase) (core : Option State) (class : Option (List ℕ)) (store : StoreValue) (lane : List Event) (put : Put)
-    → phase ≢ Free → next_put core ≡ Some put → IsGoodIn phase class store lane core → IsGood (world_with class store lane (answered core replies.Unknown))
-good-unknown Free core class store lane put out wants good = absurd (out refl)
-good-unknown Sent core class store lane put out wants good = good-given_up core class store lane put wants good
-good-unknown (Carried version) core class store lane put out wants good = good.1
+pub good-unknown : (phase : Phase) (core : Option State) (class : Option (List ℕ)) (store : StoreValue) (lane : List Event) (late : List Put) (put : Put)
+    → phase ≢ Free → next_put core ≡ Some put → IsGoodIn phase class store lane core late
+    → IsGoodWith class store lane (answered core replies.Unknown) (put ∷ late)
+good-unknown Free core class store lane late put out wants good = absurd (out refl)
+good-unknown Sent core class store lane late put out wants good = good-given_up core class store lane late put wants good
+good-unknown (Carried version) core class store lane late put out wants good =
+    subst (λ (found : Option Put). IsGoodWith class store lane (answered core replies.Unknown) (puts_in found ++ late)) wants good.1
+
+-- ---- a put that was given up is carried out
+landed-one : (class : Option (List ℕ)) (store : StoreValue) (lane : List Event) (core : Option State) (late : List Put) (put : Put) → Contains late put
+    → IsGoodWith class store lane core late
+    → IsGoodWith class (after_put put Delivered store) (lane ++ while_up core (shown_put put Delivered store)) core late
+landed-one class store lane core late put has good =
+    let w = world_with class store lane core in (
+      good-else (after_move (Lands put) w) [] (good-move (Lands put) w late has tt good.1 good.0),
+      late-move (Lands put) w late has good.1 good.0,
+    )
+
+landed-answered : (class : Option (List ℕ)) (store : StoreValue) (lane : List Event) (core : Option State) (late : List Put) (put : Put) (reply : PutReply)
+    → Contains late put → IsGoodWith class store lane (answered core reply) late
+    → IsGoodWith class (after_put put Delivered store) (lane ++ while_up core (shown_put put Delivered store)) (answered core reply) late
+landed-answered class store lane core late put reply has good =
+    subst (λ (events : List Event). IsGoodWith class (after_put put Delivered store) (lane ++ events) (answered core reply) late)
+    (sym (while-answered core reply (shown_put put Delivered store))) (landed-one class store lane (answered core reply) late put has good)
+
+pub good-landed : (phase : Phase) (class : Option (List ℕ)) (store : StoreValue) (lane : List Event) (core : Option State) (late : List Put) (put : Put)
+    → Contains late put → IsGoodIn phase class store lane core late
+    → IsGoodIn phase class (after_put put Delivered store) (lane ++ while_up core (shown_put put Delivered store)) core late
+good-landed Free class store lane core late put has good = landed-one class store lane core late put has good
+good-landed Sent class store lane core late put has good = landed-one class store lane core late put has good
+good-landed (Carried version) class store lane core late put has good = (
+  landed-answered class store lane core late put (replies.Ok version) has good.0,
+  landed-answered class store lane core (puts_in (next_put core) ++ late) put replies.Unknown
+      (Contains-append_right (puts_in (next_put core)) late put has) good.1,
+)

@@ -1,10 +1,11 @@
 -- Any number of controllers over one store. Each may be paused, cut off or killed at any moment: then it takes no step any more. Whatever
 -- was asked for may be carried out late, again or never, and answers may be lost. Two things alone are relied on: a request that names a
 -- version is carried out only at that version, and versions grow. When a Lease counts as given up isn't said: anyone may take it at any time.
-use Rattle.std.specs.Prelude.{◌≡◌, ◌≢◌, ◌⊎◌, ◌+◌, ◌<◌, ◌≤◌, ◌==◌, ℕ, Bool, true, false, if◌then◌else◌}
+use Rattle.std.specs.Prelude.{◌≡◌, ◌≢◌, ◌⊎◌, ◌+◌, ◌<◌, ◌≤◌, ◌==◌, ◌&&◌, ℕ, Bool, true, false, if◌then◌else◌}
 use Rattle.std.specs.Prelude.{List, [], ◌∷◌, ◌++◌, Option, Some, None, ⊤}
 use Rattle.std.specs.List.{AllByRecursion, Contains}
 use Rattle.kube_model.specs.declared.event.Event.{Event}
+use Rattle.kube_model.specs.Keys.{same_key}
 use Rattle.kube_model.specs.declared.key.Key.{Key}
 use Rattle.kube_model.specs.declared.put.Put.{Put}
 use Rattle.kube_model.specs.declared.reply.PutReply.{PutReply}
@@ -56,6 +57,7 @@ pub record Bridge : Type 0 where
   pub given : Lease  -- the Lease as the API server gave it last for a reading, of which the bridge may not have heard yet
   pub ask : Ask  -- what it asked for of the Lease last
   pub phase : Phase
+  pub late : List Put  -- what it gave up: each may be carried out yet, until it is gone
 
 pub record Cluster : Type 0 where
   pub class : Option (List ℕ)
@@ -83,6 +85,14 @@ IsGone store n = (n.1 ≤ store.counter) × (is_at_version n.1 (stored_at store.
 abbrev pub AreGone : StoreValue → Named → Type 0
 AreGone store named = AllByRecursion (IsGone store) named
 
+-- each of these puts is gone, or named
+abbrev pub AreCovered : StoreValue → Named → List Put → Type 0
+AreCovered store named late = (put : Put) → Contains late put → IsGone store (name_of put) ⊎ Contains named (name_of put)
+
+-- each is gone
+abbrev pub AreOver : StoreValue → List Put → Type 0
+AreOver store late = (put : Put) → Contains late put → IsGone store (name_of put)
+
 -- ---- what may happen
 
 pub data Happening : Type 0 where
@@ -97,7 +107,7 @@ pub data Happening : Type 0 where
   Does : (i : ℕ) (move : Move) → Happening  -- the program takes what it is shown, or makes a turn of which nothing is sent
   Sends : (i : ℕ) (put : Put) → Happening  -- the put that it wants is sent
   Hears : (i : ℕ) (version : ℕ) → Happening  -- the put was answered, and so is the program: `ok`
-  GivesUp : (i : ℕ) (put : Put) → Happening  -- the put is seen to be gone, and the program is answered `unknown`
+  GivesUp : (i : ℕ) (put : Put) → Happening  -- the program is answered `unknown` of the put, which may be carried out yet
 
 -- others set and delete objects
 abbrev pub IsEdit : Move → Type 0
@@ -138,38 +148,54 @@ abbrev pub IsQuiet : Bridge → Type 0
 IsQuiet b = b.ask.at < b.seen.version
 
 -- Whoever has no program may ask for the Lease, and so may who has seen it as its own: it names what it named, or else, where a program runs
--- and none of its puts is out, whatever the bridge likes.
-pub record MayAsk (i : ℕ) (b : Bridge) (named : Named) : Type 0 where
+-- and awaits no answer to a put, whatever the bridge likes, with each put that it gave up and that isn't gone.
+pub record MayAsk (i : ℕ) (store : StoreValue) (b : Bridge) (named : Named) : Type 0 where
   pub quiet : IsQuiet b
   pub own : (b.core ≡ None) ⊎ (b.seen.holder ≡ i)
-  pub names : (named ≡ b.seen.named) ⊎ ((b.phase ≡ Free) × (b.core ≢ None))
+  pub names : (named ≡ b.seen.named) ⊎ ((b.phase ≡ Free) × (b.core ≢ None) × AreCovered store named b.late)
 
 -- What the Lease named when it was read is gone: only now are the services listed. Who starts a program though the Lease is another's can send
--- nothing, so that isn't asked about. What it was given and didn't hear of is passed over.
+-- nothing, so that isn't asked about. What it was given and didn't hear of is ignored.
 pub record MayStart (list : List Event) (store : StoreValue) (b : Bridge) : Type 0 where
   pub down : b.core ≡ None
   pub quiet : IsQuiet b
   pub fenced : AreGone store b.seen.named
   pub listed : IsListOf store list
 
-pub record MayDo (move : Move) (w : WorldValue) (phase : Phase) : Type 0 where
+-- services are listed anew only where each put that was given up is gone
+abbrev pub MayList : Move → StoreValue → List Put → Type 0
+MayList (Sets object holding) store late = ⊤
+MayList (Deletes kind key) store late = ⊤
+MayList (Tells event) store late = ⊤
+MayList Takes store late = ⊤
+MayList (Turns outcome) store late = ⊤
+MayList (Stops applied) store late = ⊤
+MayList (StartsAnew list) store late = ⊤
+MayList ConfigExpires store late = ⊤
+MayList (ServicesExpire list) store late = AreOver store late
+MayList (EndsLater before event behind) store late = ⊤
+MayList (Lands put) store late = ⊤
+
+-- Puts that were given up are under way.
+pub record MayDo (move : Move) (w : WorldValue) (phase : Phase) (late : List Put) : Type 0 where
   pub free : phase ≡ Free
   pub own : IsOwnMove move
-  pub may : IsMove move w []
+  pub may : IsMove move w late
   pub typed : AllShowTerms (entries_of move w)
+  pub listed : MayList move w.store late
 
--- The Lease was seen to be the bridge's and to name the put.
-pub record MaySend (i : ℕ) (put : Put) (b : Bridge) : Type 0 where
+-- The Lease was seen to be the bridge's and to name the put; and of the service each that was given up is gone.
+pub record MaySend (i : ℕ) (put : Put) (store : StoreValue) (b : Bridge) : Type 0 where
   pub free : b.phase ≡ Free
   pub wants : next_put b.core ≡ Some put
   pub quiet : IsQuiet b
   pub own : b.seen.holder ≡ i
   pub named : Contains b.seen.named (name_of put)
+  pub unowed : (other : Put) → Contains b.late other → other.key ≡ put.key → IsGone store (name_of other)
 
-pub record MayGiveUp (put : Put) (store : StoreValue) (b : Bridge) : Type 0 where
+pub record MayGiveUp (put : Put) (b : Bridge) : Type 0 where
   pub out : b.phase ≢ Free
   pub wants : next_put b.core ≡ Some put
-  pub fenced : IsGone store (name_of put)
 
 -- the store, where no program is asked about
 abbrev pub store_alone : Cluster → WorldValue
@@ -182,12 +208,12 @@ MayHappen (Changes by ask version) c =
     Contains c.asks (by, ask) × (ask.at ≡ c.lease.version) × (c.lease.version < version)
 MayHappen (Gives i) c = ⊤
 MayHappen (Reads i) c = ⊤
-MayHappen (Asks i named) c = MayAsk i (c.bridges i) named
+MayHappen (Asks i named) c = MayAsk i c.store (c.bridges i) named
 MayHappen (Starts i list) c = MayStart list c.store (c.bridges i)
-MayHappen (Does i move) c = MayDo move (world_of c.class c.store (c.bridges i)) (c.bridges i).phase
-MayHappen (Sends i put) c = MaySend i put (c.bridges i)
+MayHappen (Does i move) c = MayDo move (world_of c.class c.store (c.bridges i)) (c.bridges i).phase (c.bridges i).late
+MayHappen (Sends i put) c = MaySend i put c.store (c.bridges i)
 MayHappen (Hears i version) c = (c.bridges i).phase ≡ Carried version
-MayHappen (GivesUp i put) c = MayGiveUp put c.store (c.bridges i)
+MayHappen (GivesUp i put) c = MayGiveUp put (c.bridges i)
 
 -- ---- what comes of it
 
@@ -199,6 +225,11 @@ with_bridge i b bridges j = if j == i then b else bridges j
 abbrev pub answered : Option State → PutReply → Option State
 answered None reply = None
 answered (Some s) reply = Some (core_reply (after_turn s) reply)
+
+-- the put that is wanted is of the service and the version of this one
+abbrev pub is_awaited : Put → Option Put → Bool
+is_awaited put None = false
+is_awaited put (Some wanted) = same_key wanted.key put.key && (wanted.version == put.version)
 
 -- whoever waits for the answer to the put that was carried out may hear it
 abbrev pub carried_out : Bool → ℕ → Phase → Phase
@@ -213,7 +244,7 @@ carried by put store bridges j =
     let b = bridges j in
     record b {
       lane = b.lane ++ while_up b.core (shown_put put Delivered store);
-      phase = carried_out (j == by) (store.counter + 1) b.phase;
+      phase = carried_out (j == by && is_awaited put (next_put b.core)) (store.counter + 1) b.phase;
     }
 
 -- so is an edit
@@ -234,11 +265,11 @@ after (Asks i named) c =
     let b = c.bridges i in
     let ask : Ask = record { at = b.seen.version; named = named } in
     record c { asks = (i, ask) ∷ c.asks; bridges = with_bridge i (record b { ask = ask }) c.bridges }
-after (Starts i list) c = let b = c.bridges i in at_bridge i c (record b { core = Some (fresh c.class); lane = list; given = b.seen; phase = Free })
+after (Starts i list) c = let b = c.bridges i in at_bridge i c (record b { core = Some (fresh c.class); lane = list; given = b.seen; phase = Free; late = [] })
 after (Does i move) c = let b = c.bridges i in at_bridge i c (in_world (after_move move (world_of c.class c.store b)) b)
 after (Sends i put) c = let b = c.bridges i in record c { sent = (i, put) ∷ c.sent; bridges = with_bridge i (record b { phase = Sent }) c.bridges }
 after (Hears i version) c = let b = c.bridges i in at_bridge i c (record b { core = answered b.core (replies.Ok version); phase = Free })
-after (GivesUp i put) c = let b = c.bridges i in at_bridge i c (record b { core = answered b.core replies.Unknown; phase = Free })
+after (GivesUp i put) c = let b = c.bridges i in at_bridge i c (record b { core = answered b.core replies.Unknown; phase = Free; late = put ∷ b.late })
 
 -- ---- the law
 
@@ -247,7 +278,7 @@ abbrev pub first_lease : Lease
 first_lease = record { version = 1; holder = 0; named = [] }
 
 abbrev pub first_bridge : Bridge
-first_bridge = record { core = None; lane = []; seen = first_lease; given = first_lease; ask = record { at = 0; named = [] }; phase = Free }
+first_bridge = record { core = None; lane = []; seen = first_lease; given = first_lease; ask = record { at = 0; named = [] }; phase = Free; late = [] }
 
 abbrev pub first_cluster : Option (List ℕ) → StoreValue → Cluster
 first_cluster class store = record { class = class; store = store; lease = first_lease; asks = []; sent = []; bridges = λ j. first_bridge }
@@ -257,7 +288,7 @@ abbrev pub MayAllHappen : List Happening → Cluster → Type 0
 MayAllHappen [] c = ⊤
 MayAllHappen (happening ∷ more) c = MayHappen happening c × MayAllHappen more (after happening c)
 
--- the store is safe before and behind each
+-- the store is safe before and after each
 abbrev pub IsSafeThroughout : List Happening → Cluster → Type 0
 IsSafeThroughout [] c = IsSafe c.store
 IsSafeThroughout (happening ∷ more) c = IsSafe c.store × IsSafeThroughout more (after happening c)

@@ -9,7 +9,8 @@ use Rattle.world_rules.specs.World.{next_put}
 use Rattle.fence_rules.specs.Among.{after_all}
 use Rattle.fence_rules.specs.Cluster.{Ask, Cluster, Free, Happening, Asks, Carries, Changes, Hears, Gives, Reads, Sends, Starts, AreGone, IsQuiet, MayAllHappen, name_of}
 
--- The first bridge holds the Lease, knows it, and has no request under way; and the put that its program wants is at the stored version.
+-- The first bridge holds the Lease, knows it, has no request under way, and gave nothing up; and the put that its program wants is at the stored
+-- version.
 pub record CanPut (c : Cluster) (put : Put) : Type 0 where
   pub wants : next_put (c.bridges 0).core ≡ Some put
   pub free : (c.bridges 0).phase ≡ Free
@@ -17,6 +18,7 @@ pub record CanPut (c : Cluster) (put : Put) : Type 0 where
   pub known : (c.bridges 0).seen ≡ c.lease
   pub holds : c.lease.holder ≡ 0
   pub current : is_made put Delivered c.store.objects ≡ true
+  pub none : (c.bridges 0).late ≡ []
 
 -- it names the put, reads so, and sends it; it is carried out, and the answer is heard
 abbrev pub put_made : Cluster → Put → List Happening

@@ -1,15 +1,18 @@
--- Three histories that are admitted: what is said of every cluster is said of requests that come
--- late, twice, or too late.
-use Rattle.std.specs.Prelude.{◌≡◌, ◌<◌, ◌+◌, ℕ, List, [], ◌∷◌, None}
+-- Four histories that are admitted: what is said of every cluster is said of requests that come
+-- late, twice, or too late, and of a put that can't be fenced.
+use Rattle.std.specs.Prelude.{◌≡◌, ◌≢◌, ◌<◌, ◌+◌, ℕ, true, List, [], ◌∷◌, Some, None}
 use Rattle.kube_model.specs.declared.event.Event.{Event}
 use Rattle.kube_model.specs.declared.put.Put.{Put}
+use Rattle.kube_model.specs.declared.reply.PutReply.TheVariants as replies
 use Rattle.status_store.specs.declared.change.Outcome.TheVariants.{Delivered, Refused}
-use Rattle.status_store.specs.Changes.{IsWellFormed, after_put}
-use Rattle.world_rules.specs.Moves.{Move, Turns, IsMove, IsListOf}
+use Rattle.status_store.specs.Changes.{IsWellFormed, after_put, is_made}
+use Rattle.world_rules.specs.Moves.{Move, ServicesExpire, Turns, IsMove, IsListOf}
+use Rattle.world_rules.specs.World.{next_put}
 use Rattle.fence_rules.specs.Among.{after_all}
 use Rattle.fence_rules.specs.Cluster.{Ask, Cluster, Happening, Edits, Asks, Carries, Changes, Does}
-use Rattle.fence_rules.specs.Cluster.{GivesUp, Gives, Reads, Sends, Starts, IsEdit, IsGone, IsQuiet}
-use Rattle.fence_rules.specs.Cluster.{MayAllHappen, MayHappen, after, name_of, store_alone}
+use Rattle.fence_rules.specs.Cluster.{GivesUp, Gives, Hears, Reads, Sends, Starts, IsEdit, IsGone}
+use Rattle.fence_rules.specs.Cluster.{IsQuiet, MayAllHappen, MayHappen, after, answered, name_of}
+use Rattle.fence_rules.specs.Cluster.{store_alone}
 use Rattle.fence_rules.specs.Going.{CanPut}
 
 -- the first bridge's request that its put be named
@@ -88,3 +91,34 @@ NamingsMayBeLost = (c : Cluster) (put : Put) → CanLose c put
     × ((version : ℕ)
     → ¬ (MayHappen (Changes 0 (naming c put) version) (after_all (naming_lost c put) c)))
     × ((other : Put) → ¬ (MayHappen (Sends 0 other) (after_all (naming_lost c put) c)))
+
+-- ---- a put can't be fenced, and another one is made
+
+-- Once the first program heard `unknown` of the put it wants another one, of another service. Both
+-- are at the stored versions; and the list is as the store is once both are carried out.
+pub record CanBeOwed (c : Cluster) (put other : Put) (list : List Event) : Type 0 where
+  pub sends : CanPut c put
+  pub then_wants : next_put (answered (c.bridges 0).core replies.Unknown) ≡ Some other
+  pub apart : put.key ≢ other.key
+  pub current : is_made other Delivered c.store.objects ≡ true
+  pub still : is_made put Delivered (after_put other Delivered c.store).objects ≡ true
+  pub kept : IsWellFormed (after_put other Delivered c.store)
+  pub listed : IsListOf (after_put put Delivered (after_put other Delivered c.store)) list
+
+-- It sends its put, and gives it up; it names the other beside it, sends that one, and hears `ok`.
+-- The first one is carried out after all; only then are the services listed anew.
+abbrev pub owed_beside : Cluster → Put → Put → List Event → List Happening
+owed_beside c put other list =
+    let both = name_of other ∷ name_of put ∷ [] in
+    let ask : Ask = record { at = c.lease.version + 1; named = both } in
+    Asks 0 (name_of put ∷ []) ∷ Changes 0 (naming c put) (c.lease.version + 1) ∷ Gives 0 ∷ Reads 0
+    ∷ Sends 0 put ∷ GivesUp 0 put ∷ Asks 0 both ∷ Changes 0 ask (c.lease.version + 2) ∷ Gives 0
+    ∷ Reads 0 ∷ Sends 0 other ∷ Carries 0 other ∷ Hears 0 (c.store.counter + 1) ∷ Carries 0 put
+    ∷ Does 0 (ServicesExpire list) ∷ []
+
+-- so it may be, and both are stored
+abbrev pub PutsMayBeOwed : Type 0
+PutsMayBeOwed = (c : Cluster) (put other : Put) (list : List Event) → CanBeOwed c put other list
+    → MayAllHappen (owed_beside c put other list) c
+    × ((after_all (owed_beside c put other list) c).store
+    ≡ after_put put Delivered (after_put other Delivered c.store))

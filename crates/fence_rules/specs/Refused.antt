@@ -7,9 +7,9 @@ use Rattle.kube_model.specs.declared.put.Put.{Put}
 use Rattle.status_store.specs.Places.{service_at}
 use Rattle.status_store.specs.Objects.{stored_at}
 use Rattle.status_store.specs.Changes.{is_at_version}
-use Rattle.world_rules.specs.Moves.{Move}
+use Rattle.world_rules.specs.Moves.{Move, ServicesExpire}
 use Rattle.fence_rules.specs.Cluster.{Ask, Cluster, Named, Free, Asks, Carries, Changes, Does}
-use Rattle.fence_rules.specs.Cluster.{GivesUp, Sends, Starts, AreGone, IsGone, IsQuiet, MayHappen}
+use Rattle.fence_rules.specs.Cluster.{Sends, Starts, AreGone, IsGone, IsQuiet, MayHappen}
 use Rattle.fence_rules.specs.Cluster.{name_of}
 
 -- a step of one bridge, at any moment
@@ -24,8 +24,13 @@ pub record AreRefused (c : Cluster) (i : ℕ) : Type 0 where
   pub sent_again : (put : Put) → (c.bridges i).phase ≢ Free → ¬ (MayHappen (Sends i put) c)
   -- 409 answered `stale`
   pub stale_once_sent : (move : Move) → (c.bridges i).phase ≢ Free → ¬ (MayHappen (Does i move) c)
-  pub unknown_unfenced : (put : Put) → ¬ (IsGone c.store (name_of put))
-      → ¬ (MayHappen (GivesUp i put) c)
+  -- one that was given up, and may still come, isn't named any more
+  pub owed_dropped : (named : Named) (put : Put) → Contains (c.bridges i).late put
+      → ¬ (IsGone c.store (name_of put)) → ¬ (Contains named (name_of put))
+      → named ≢ (c.bridges i).seen.named → ¬ (MayHappen (Asks i named) c)
+  -- services are listed anew before it is gone
+  pub listed_while_owed : (list : List Event) (put : Put) → Contains (c.bridges i).late put
+      → ¬ (IsGone c.store (name_of put)) → ¬ (MayHappen (Does i (ServicesExpire list)) c)
   pub blind_put : (put : Put)
       → is_at_version put.version (stored_at c.store.objects (service_at put.key)) ≡ false
       → ¬ (MayHappen (Carries i put) c)

@@ -3,7 +3,8 @@ ghost use Rattle.fence_rules.specs.Among.{RunsAreSafeAmongOthers};
 ghost use Rattle.fence_rules.specs.Cluster.{ClustersAreSafe};
 ghost use Rattle.fence_rules.specs.Fenced.{HappeningsKeepFenced};
 ghost use Rattle.fence_rules.specs.Going.{LeasesAreTakenOver, PutsAreMade};
-ghost use Rattle.fence_rules.specs.Histories.{NamingsMayBeLost, PutsMayBeHeldBack, PutsMayBeResent};
+ghost use Rattle.fence_rules.specs.Histories.{NamingsMayBeLost, PutsMayBeHeldBack, PutsMayBeOwed};
+ghost use Rattle.fence_rules.specs.Histories.{PutsMayBeResent};
 ghost use Rattle.fence_rules.specs.Refused.{WrongStepsAreRefused};
 
 /// However many controllers there are, whenever each is paused, cut off or killed, and whatever
@@ -28,11 +29,14 @@ pub fn clusters_go_on()
 {}
 
 /// Nor only of requests that come in time: a put may be held back while another takes the Lease
-/// over, be delivered twice, and a request that it be named be lost to another.
+/// over, be delivered twice, and a request that it be named be lost to another. One that can't be
+/// fenced may be answered `unknown` all the same: others are made, it is carried out after all, and
+/// then the services are listed anew.
 pub fn late_requests_are_admitted()
     ensures held_back { PutsMayBeHeldBack }
     ensures resent { PutsMayBeResent }
     ensures lost { NamingsMayBeLost }
+    ensures owed { PutsMayBeOwed }
 {}
 
 /// Each step that leads to two services with one address, where it is let through, is refused at

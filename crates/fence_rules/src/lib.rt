@@ -1,4 +1,5 @@
-//! Any number of controllers over one store, one of which at most has a put that can still be carried out.
+//! Any number of controllers over one store, one of which at most has puts that can still be
+//! carried out.
 #![tactic(auto)]
 
 mod laws;

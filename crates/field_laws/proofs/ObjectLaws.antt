@@ -61,7 +61,7 @@ bare rows next whole d each =
     ∙ then_row (name_field d) _ (row_told name_row d) (rows_told rows d) (λ it. it) _ (texts.name_row (codes "metadata.name") d)
     (λ name _. each (bare_key name))
 
--- the key, and the rows behind it
+-- the key, and the rows after it
 key_first : {B : Type 0} (kind : Kind) (rows : Rows) (next : Key → Result B Path) (whole : Key × RowsTold rows → B) (d : Data)
     → ((key : Key) → next key ≡ as_put (λ told. whole (key, told)) (rows_told rows d))
     → (key_of kind d >>= next) ≡ as_put (λ told. whole (key_and kind rows told)) (rows_told (keyed kind rows) d)

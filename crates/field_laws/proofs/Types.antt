@@ -158,7 +158,7 @@ then_by : {A B X Y : Type 0} (next : A → Result B Path) (tell : Result X Path)
 then_by next (Ok x) rest make whole others = others x refl ∙ put_both whole x rest
 then_by next (Err path) rest make whole others = refl
 
--- a field, and those behind it
+-- a field, and those after it
 pub then_row : {A B X Y : Type 0} (read : Result A Path) (next : A → Result B Path) (tell : Result X Path) (rest : Result Y Path) (make : X → A)
     (whole : X × Y → B)
     → read ≡ as_put make tell → ((x : X) → tell ≡ Ok x → next (make x) ≡ as_put (λ y. whole (x, y)) rest) → (read >>= next) ≡ as_put whole (both tell rest)

@@ -129,7 +129,7 @@ object_with kinds.Slice key labels told = objects.Slice (slice_with key labels t
 abbrev pub bare_key : List ℕ → Key
 bare_key name = record { namespace = []; name = name }
 
--- the key, and what the rows behind it tell
+-- the key, and what the rows after it tell
 abbrev pub key_and : (kind : Kind) (rows : Rows) → RowsTold (keyed kind rows) → Key × RowsTold rows
 key_and kinds.Service rows (name, (namespace, told)) = (record { namespace = namespace; name = name }, told)
 key_and kinds.Slice rows (name, (namespace, told)) = (record { namespace = namespace; name = name }, told)

@@ -1,4 +1,4 @@
--- What stands in a value behind names, one inside the other.
+-- What stands in a value after names, one inside the other.
 use Rattle.std.specs.Prelude.{ℕ, List, [], ◌∷◌, Option, Some, None}
 use Rattle.serde_json.specs.Data.{Data, null, object}
 use Rattle.serde_json.specs.Find.{get_member}

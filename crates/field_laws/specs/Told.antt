@@ -1,4 +1,4 @@
--- What a value of a type tells, and what fields tell in their order, or the path of the first that is not as stated.
+-- What a value of a type tells, and what fields tell in their order, or the path of the first that is invalid.
 use Rattle.std.specs.Prelude.{ℕ, ◌+◌, ◌&&◌, ◌||◌, List, [], ◌∷◌, Bool, false, Option, Some, None}
 use Rattle.std.specs.Prelude.{option_map, option_and_then, Result, Ok, Err, nat_le, if◌then◌else◌, ⊤}
 use Rattle.std.specs.Result.{result_ok}

@@ -13,8 +13,9 @@ ghost use Rattle.kube_events.specs.Named.{family_of, version_of, address_in};
 ghost use Rattle.kube_events.specs.ServiceFields.{ingress_of};
 ghost use Rattle.field_laws.specs.FieldLaws.{FieldsAreRead, ListsAreRead};
 
-/// A field is read by what stands at its path alone: a required one exactly where a value of the type stands there, one that may be absent
-/// also where nothing does, and else it is refused, at its path or from there on.
+/// A field is read by what stands at its path alone: a required one exactly where a value of the
+/// type stands there, one that may be absent also where nothing does, and else it is refused, at
+/// its path or from there on.
 pub fn fields_are_read()
     ensures text { FieldsAreRead text_of }
     ensures truth { FieldsAreRead bool_of }
@@ -36,7 +37,8 @@ pub fn fields_are_read()
     ensures endpoints { FieldsAreRead (list_of endpoint_of) }
 {}
 
-/// A list is read exactly where each of its items is, and else the first that isn't is refused, by its place.
+/// A list is read exactly where each of its items is, and else the first that isn't is refused, by
+/// its place.
 pub fn lists_are_read()
     ensures texts { ListsAreRead text_of }
     ensures families { ListsAreRead family_of }

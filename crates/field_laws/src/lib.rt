@@ -1,4 +1,5 @@
-//! What is read of lines and objects, told by tables of their fields. Each law is the contract of a function that does nothing.
+//! What is read of lines and objects, told by tables of their fields. Each law is the contract of a
+//! function that does nothing.
 #![tactic(auto)]
 
 mod fields;

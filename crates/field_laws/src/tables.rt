@@ -1,7 +1,8 @@
 //! What is read of objects and of lines is what their tables tell.
 ghost use Rattle.std.specs.Prelude.{ℕ, List};
 ghost use Rattle.serde_json.specs.Data.{Data};
-ghost use Rattle.field_laws.specs.Laws.{ChangedAsTold, StatedAsTold, DeletedAsTold, MembersAsTold, FramesAsTold};
+ghost use Rattle.field_laws.specs.Laws.{ChangedAsTold, StatedAsTold, DeletedAsTold, MembersAsTold};
+ghost use Rattle.field_laws.specs.Laws.{FramesAsTold};
 ghost use Rattle.field_laws.specs.FieldTypes.{Rows};
 ghost use Rattle.field_laws.specs.RowLaws.{RowsAreTold};
 ghost use Rattle.field_laws.specs.Lines.{OthersArePassedBy, IsReadByValue, LinesAsTold};
@@ -11,7 +12,8 @@ pub fn rows_are_told()
     ensures { (rows : Rows) (d : Data) → RowsAreTold rows d }
 {}
 
-/// An object of each kind that is there is read as its table tells, or refused at the first row that it tells to be at fault.
+/// An object of each kind that is there is read as its table tells, or refused at the first row
+/// that it tells to be at fault.
 pub fn changed_objects_are_told()
     ensures { ChangedAsTold }
 {}
@@ -36,7 +38,8 @@ pub fn frames_are_told()
     ensures { FramesAsTold }
 {}
 
-/// A line with an object of a kind that is read, of members or of a frame is read as the table tells.
+/// A line with an object of a kind that is read, of members or of a frame is read as the table
+/// tells.
 pub fn lines_are_told()
     ensures { (line : Data) → LinesAsTold line }
 {}
@@ -46,7 +49,8 @@ pub fn others_are_passed_by()
     ensures { (line : Data) → OthersArePassedBy line }
 {}
 
-/// A line is read by the value that its bytes are the text of; it is no JSON exactly where it is the text of none.
+/// A line is read by the value that its bytes are the text of; it is no JSON exactly where it is
+/// the text of none.
 pub fn lines_are_read_by_value()
     ensures { (line : List ℕ) → IsReadByValue line }
 {}

@@ -4,10 +4,13 @@ ghost use Rattle.json_fields.specs.Reading.{text_of, bool_of, labels_of, number_
 ghost use Rattle.kube_model.specs.Named.{protocol_of, policy_of};
 ghost use Rattle.kube_events.specs.Frame.{bytes_of};
 ghost use Rattle.kube_events.specs.Named.{family_of, version_of, address_in};
-ghost use Rattle.field_laws.specs.FieldLaws.{IsReadWhere, IsText, IsTruth, IsNumber, IsTextMap, IsTextOf, SaysFamily};
-ghost use Rattle.field_laws.specs.FieldLaws.{SaysProtocol, SaysPolicy, SaysVersion, SaysAddress, SaysBytes};
+ghost use Rattle.field_laws.specs.FieldLaws.{IsReadWhere, IsText, IsTruth, IsNumber, IsTextMap};
+ghost use Rattle.field_laws.specs.FieldLaws.{IsTextOf, SaysFamily};
+ghost use Rattle.field_laws.specs.FieldLaws.{SaysProtocol, SaysPolicy, SaysVersion, SaysAddress};
+ghost use Rattle.field_laws.specs.FieldLaws.{SaysBytes};
 
-/// A text, `true` or `false`, and a map of texts are read exactly where they stand there, and else refused at their place.
+/// A text, `true` or `false`, and a map of texts are read exactly where they stand there, and else
+/// refused at their place.
 pub fn values_are_read()
     ensures text { IsReadWhere text_of IsText }
     ensures truth { IsReadWhere bool_of IsTruth }

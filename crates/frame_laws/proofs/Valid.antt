@@ -42,7 +42,7 @@ module _ (mac hardware target destination : List ℕ) (flags : ℕ) (m : IsHardw
   framed : frame ≡ (hardware ++ mac) ++ (header ++ (target ++ (destination ++ message)))
   framed = regrouped hardware mac header target destination message
 
-  -- the octets behind the Ethernet addresses, behind the IPv6 header, and of the message
+  -- the octets after the Ethernet addresses, after the IPv6 header, and of the message
   in-header : (k : ℕ) → get_or frame (12 + k) 0 ≡ get_or (header ++ (target ++ (destination ++ message))) k 0
   in-header k = ap (λ octets. get_or octets (12 + k) 0) framed
       ∙ get_or-front (hardware ++ mac) (header ++ (target ++ (destination ++ message))) 12 k (omega (arith, length-append hardware mac, h.0, m.0))

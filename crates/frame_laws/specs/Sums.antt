@@ -20,7 +20,7 @@ AreOctets octets = AllByRecursion (λ octet. octet < 0x100) octets
 abbrev pub ChecksumsArePlainSums : Type 0
 ChecksumsArePlainSums = (octets : List ℕ) → AreOctets octets → (ones_sum octets ≡ 0xffff) ↔ IsMultiple (plain_sum octets)
 
--- how many octets are behind the IPv6 header, by the two at 18
+-- how many octets are after the IPv6 header, by the two at 18
 abbrev pub message_length : List ℕ → ℕ
 message_length frame = slice_index frame 18 * 0x100 + slice_index frame 19
 

@@ -1,5 +1,6 @@
 //! Entries of pools, and which of them are known to be full.
-ghost use Rattle.std.specs.Prelude.{◌≡◌, ◌≤◌, ◌<◌, ◌==◌, ◌&&◌, ◌||◌, ◌++◌, [], ℕ, true, not, Some, OnOk, IfOk, slice_get};
+ghost use Rattle.std.specs.Prelude.{◌≡◌, ◌≤◌, ◌<◌, ◌==◌, ◌&&◌, ◌||◌, ◌++◌, [], ℕ, true, not, Some};
+ghost use Rattle.std.specs.Prelude.{OnOk, IfOk, slice_get};
 ghost use Rattle.mlb_base.specs.Items.{is_nil};
 ghost use Rattle.number_sets.specs.Runs.{has};
 ghost use Rattle.full_entries.specs.declared.entries.Entry.{Entry};
@@ -37,8 +38,8 @@ impl Entry {
     }
 }
 
-/// The entries of pools, pool by pool, and the places of those that are known to be full. The place of the entry that has an address is
-/// found in the logarithm of their number.
+/// The entries of pools, pool by pool, and the places of those that are known to be full. The place
+/// of the entry that has an address is found in the logarithm of their number.
 #[derive(Drop)]
 pub(crate) struct FullEntries {
     entries: Vec<Entry>,
@@ -74,7 +75,8 @@ impl FullEntries {
         }
     }
 
-    /// The entries of the pools, of which none is known to be full; no entry, where one isn't found by each of its numbers.
+    /// The entries of the pools, of which none is known to be full; no entry, where one isn't found
+    /// by each of its numbers.
     pub(crate) fn new(alloc: Global, pools: &[CompiledPool]) -> Result<FullEntries, NoMemory>
         ensures known { IfOk result NoneIsKnown }
         ensures entries { IfOk result (λ f. AreThose pools.now f.entries) }
@@ -118,7 +120,8 @@ impl FullEntries {
 
     /// The place of the entry that has the address. Where none has it, that of any may be answered.
     pub(crate) fn place_of(&self, address: &Address) -> Option<usize>
-        ensures { (i : ℕ) (e : Entry) → slice_get self.now.entries i ≡ Some e → HasAddress address.now e → result ≡ Some i }
+        ensures { (i : ℕ) (e : Entry) → slice_get self.now.entries i ≡ Some e
+            → HasAddress address.now e → result ≡ Some i }
     {
         match address.family {
             Family::V4 => self.v4.place_at(address.number),
@@ -126,7 +129,8 @@ impl FullEntries {
         }
     }
 
-    /// The first place from this one on whose entry isn't known to be full, where there is one before the end.
+    /// The first place from this one on whose entry isn't known to be full, where there is one
+    /// before the end.
     pub(crate) fn first_unknown(&self, from: usize, end: usize) -> usize
         ensures within { from ≤ result }
         ensures known { (i : ℕ) → from ≤ i → i < result → has self.now.full i ≡ true }
@@ -143,7 +147,8 @@ impl FullEntries {
         }
     }
 
-    /// The entry at the place is known to be full. Where there is no room to keep that, none is more than was.
+    /// The entry at the place is known to be full. Where there is no room to keep that, none is
+    /// more than was.
     pub(crate) fn learn(&mut self, place: usize)
         ensures entries { self.new.entries ≡ self.old.entries }
         ensures known { AreKnownTo (λ i. (i == place) || has self.old.full i) self.new }

@@ -1,5 +1,6 @@
 //! The claims, and which entries of pools they leave no address of.
-ghost use Rattle.std.specs.Prelude.{◌≡◌, ◌≤◌, ◌<◌, ◌==◌, ◌∷◌, ◌++◌, [], ℕ, true, not, filter, Some, OnOk, slice_get};
+ghost use Rattle.std.specs.Prelude.{◌≡◌, ◌≤◌, ◌<◌, ◌==◌, ◌∷◌, ◌++◌, [], ℕ, true, not, filter, Some};
+ghost use Rattle.std.specs.Prelude.{OnOk, slice_get};
 ghost use Rattle.std.specs.List.{All, Contains};
 ghost use Rattle.std.specs.Map.{values_of};
 ghost use Rattle.ip_ranges.specs.Values.{AddressValue};
@@ -23,9 +24,10 @@ use std::alloc::Global;
 use std::marker::Model;
 use std::mem;
 
-/// The claims by what each is found, and which entries of the pools that were entered last are full: each of their addresses has a claim,
-/// or is a buggy one that the pool avoids. Not each full entry is known as one: where there is no memory for that, none is. A claim that
-/// comes or goes takes the logarithm of the number of entries for each of its addresses besides.
+/// The claims by what each is found, and which entries of the pools that were entered last are
+/// full: each of their addresses has a claim, or is a buggy one that the pool avoids. Not each full
+/// entry is known as one: where there is no memory for that, none is. A claim that comes or goes
+/// takes the logarithm of the number of entries for each of its addresses besides.
 pub struct EntryClaims {
     claims: ClaimIndex,
     entries: FullEntries,
@@ -63,7 +65,8 @@ impl EntryClaims {
         }
     }
 
-    /// From now on it is kept which entries of these pools are full, and of no others; of none, where there is no memory.
+    /// From now on it is kept which entries of these pools are full, and of no others; of none,
+    /// where there is no memory.
     pub fn enter(&mut self, alloc: Global, pools: &[CompiledPool])
         ensures items { self.new.items ≡ self.old.items }
         ensures room { self.new.room ≡ self.old.room }
@@ -86,7 +89,8 @@ impl EntryClaims {
         self.claims.reserve(claim)
     }
 
-    /// The claim is added at the end, and its number is answered. There is room for it, so it takes no memory.
+    /// The claim is added at the end, and its number is answered. There is room for it, so it takes
+    /// no memory.
     pub fn add(&mut self, claim: Claim) -> u64
         requires room { HasRoomFor self.old.room claim }
         requires assigned { is_assigned claim.holding ≡ true }
@@ -124,21 +128,25 @@ impl EntryClaims {
 
     /// The place of the entry that has the address. Where none has it, that of any may be answered.
     pub fn place_of(&self, address: &Address) -> Option<usize>
-        ensures { (i : ℕ) (e : Entry) → slice_get self.now.entries i ≡ Some e → HasAddress address.now e → result ≡ Some i }
+        ensures { (i : ℕ) (e : Entry) → slice_get self.now.entries i ≡ Some e
+            → HasAddress address.now e → result ≡ Some i }
     {
         self.entries.place_of(address)
     }
 
-    /// From this place on the first one before the end whose entry isn't known to be full: all in front of it are.
+    /// From this place on the first one before the end whose entry isn't known to be full: all in
+    /// front of it are.
     pub fn first_open(&self, from: usize, end: usize) -> usize
         ensures within { from ≤ result }
-        ensures full { (i : ℕ) (e : Entry) → from ≤ i → i < result → slice_get self.now.entries i ≡ Some e → IsFull (values_of self.now.items) e }
+        ensures full { (i : ℕ) (e : Entry) → from ≤ i → i < result
+            → slice_get self.now.entries i ≡ Some e → IsFull (values_of self.now.items) e }
     {
         self.entries.first_unknown(from, end)
     }
 }
 
-/// Each entry that the claims leave no address of is known to be full, where there is room to keep that.
+/// Each entry that the claims leave no address of is known to be full, where there is room to keep
+/// that.
 fn learn_all(claims: &ClaimIndex, entries: &mut FullEntries)
     requires { AreFull (values_of claims.now.items) entries.old }
     ensures full { AreFull (values_of claims.now.items) entries.new }

@@ -69,7 +69,8 @@ impl FamilyOrder {
         self.lows.partition_point(|low| *low <= number)
     }
 
-    /// The place of the last entry that begins at the number or below it; in the logarithm of the number of entries.
+    /// The place of the last entry that begins at the number or below it; in the logarithm of the
+    /// number of entries.
     pub(crate) fn place_at(&self, number: u128) -> Option<usize>
         ensures { result ≡ place_at self.now number }
     {
@@ -79,7 +80,8 @@ impl FamilyOrder {
 
     /// Whether the entry at the place is found by each of its numbers, where it is of the family.
     fn finds(&self, entries: &[Entry], family: Family, place: usize) -> bool
-        ensures { IsTrue result → (e : Entry) → slice_get entries.now place ≡ Some e → IsFound family self.now e place }
+        ensures { IsTrue result → (e : Entry) → slice_get entries.now place ≡ Some e
+            → IsFound family self.now e place }
     {
         let Some(entry) = entry_at(entries, place) else {
             return true;
@@ -89,7 +91,8 @@ impl FamilyOrder {
 
     /// Whether the entry at the place is found by each of its numbers.
     fn finds_entry(&self, entry: &Entry, place: usize) -> bool
-        ensures { IsTrue result → (n : ℕ) → entry.now.low ≤ n → n ≤ entry.now.high → place_at self.now n ≡ Some place }
+        ensures { IsTrue result → (n : ℕ) → entry.now.low ≤ n → n ≤ entry.now.high
+            → place_at self.now n ≡ Some place }
     {
         let found = self.place_at(entry.low);
         let begun = self.begun(entry.low);

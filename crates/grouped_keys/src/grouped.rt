@@ -12,11 +12,11 @@ use std::collections::btree_map::Keys;
 use std::collections::{BTreeMap, BTreeSet};
 use std::marker::Model;
 
-/// For each group a set of keys, which contracts see as the list of the groups with their sets, by ascending group, and read
-/// by `in_group`: whether a key is in the set of a group.
+/// For each group a set of keys, which contracts see as the list of the groups with their sets, by
+/// ascending group, and read by `in_group`: whether a key is in the set of a group.
 ///
-/// A call takes the logarithm of the number of groups in comparisons of groups, and that of the size of the group's set in
-/// comparisons of keys.
+/// A call takes the logarithm of the number of groups in comparisons of groups, and that of the
+/// size of the group's set in comparisons of keys.
 pub struct GroupedKeys<G: Ord, K: Ord> {
     alloc: Global,
     groups: BTreeMap<G, BTreeSet<K>>,
@@ -67,10 +67,13 @@ impl<G: Ord, K: Ord> GroupedKeys<G, K> {
 }
 
 impl<G: Ord + Drop, K: Ord + Drop> GroupedKeys<G, K> {
-    /// Puts the key in the group's set. This takes memory where the set doesn't have it. After want of memory all is unchanged.
+    /// Puts the key in the group's set. This takes memory where the set doesn't have it. Where
+    /// memory ran out all is unchanged.
     pub fn insert(&mut self, group: G, key: K) -> Result<(), NoMemory>
         ensures ok { OnOk result
-            (in_group G.cmp K.cmp self.new ≡ (λ g k. (is_at (G.cmp group) g && is_at (K.cmp key) k) || in_group G.cmp K.cmp self.old g k)) }
+            (in_group G.cmp K.cmp self.new
+            ≡ (λ g k. (is_at (G.cmp group) g && is_at (K.cmp key) k)
+            || in_group G.cmp K.cmp self.old g k)) }
         ensures err { OnErr result (self.new ≡ self.old) }
     {
         match self.groups.get_mut(&group) {
@@ -85,9 +88,12 @@ impl<G: Ord + Drop, K: Ord + Drop> GroupedKeys<G, K> {
         Ok(())
     }
 
-    /// Takes the key out of the group's set. A set that is empty then is dropped, and its group with it. This takes no memory.
+    /// Takes the key out of the group's set. A set that is empty then is dropped, and its group
+    /// with it. This takes no memory.
     pub fn remove(&mut self, group: &G, key: &K)
-        ensures { in_group G.cmp K.cmp self.new ≡ (λ g k. not (is_at (G.cmp group.now) g && is_at (K.cmp key.now) k) && in_group G.cmp K.cmp self.old g k) }
+        ensures { in_group G.cmp K.cmp self.new
+            ≡ (λ g k. not (is_at (G.cmp group.now) g && is_at (K.cmp key.now) k)
+            && in_group G.cmp K.cmp self.old g k) }
     {
         let Some(keys) = self.groups.get_mut(group) else {
             return;

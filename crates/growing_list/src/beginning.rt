@@ -6,7 +6,8 @@ use crate::rule::{Counts, Naming};
 use logbook::Seen;
 use std::marker::{Model, PhantomData};
 
-/// A beginning of the list, which contracts see as its entries. It is a number when it runs, and may go to any thread.
+/// A beginning of the list, which contracts see as its entries. It is a number when it runs, and
+/// may go to any thread.
 #[derive(Drop)]
 pub struct Beginning<E, J: Naming> {
     pub(crate) count: u64,
@@ -45,7 +46,8 @@ impl<E, J: Naming> Beginning<E, J> {
 
     /// Whether it begins the other. If it doesn't, the other begins it, and is shorter.
     pub fn begins(&self, other: &Beginning<E, J>) -> bool
-        ensures { MatchBool result (IsPrefix self.now other.now) (IsPrefix other.now self.now × (length other.now < length self.now)) }
+        ensures { MatchBool result (IsPrefix self.now other.now)
+            (IsPrefix other.now self.now × (length other.now < length self.now)) }
     {
         let mut both = self.seen.again();
         both.learn(&other.seen);

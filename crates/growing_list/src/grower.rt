@@ -69,8 +69,8 @@ impl<E, J: Naming> Grower<E, J> {
         self.whole.again()
     }
 
-    /// Adds the entry. `false` says that it wasn't added: that doesn't happen before the list has 2^64 - 1 entries, and no clause excludes it. It
-    /// takes no memory.
+    /// Adds the entry. `false` says that it wasn't added: that doesn't happen before the list has
+    /// 2^64 - 1 entries, and no clause excludes it. It takes no memory.
     pub fn add(&mut self, entry: &E) -> bool
         ensures { MatchBool result (self.new ≡ self.old ++ entry.now ∷ []) (self.new ≡ self.old) }
     {

@@ -1,5 +1,6 @@
 -- Each further history is one: what computes is computed.
-use Rattle.std.proofs.Common.{◌≡◌, ◌≤◌, [], ◌∷◌, None, reverse, codes, inl, inr, refl, arith}
+use Rattle.std.proofs.Common.{◌≡◌, [], ◌∷◌, None, reverse, codes, inl, inr, refl, sym}
+use Rattle.std.proofs.lemmas.Bool.{true≢false}
 use Rattle.hex.specs.Hex.{encode_with, decode_pairs}
 use Rattle.core.specs.Fmt.{digits}
 use Rattle.core.specs.Str.{is_utf8, chars}
@@ -18,18 +19,13 @@ use Rattle.history_laws.specs.Histories.{IsTrue, put_of}
 use Rattle.history_laws.specs.Seen.{IsSeen}
 use Rattle.history_laws.specs.Further.{at_port, sharing, FurtherAreExplained, FurtherAreSeen}
 use Rattle.history_laws.specs.Further.{shown_twice, shown_twice_seen}
+use Rattle.history_laws.specs.Further.{gone_twice, gone_twice_seen}
+use Rattle.history_laws.specs.Further.{ended_thrice, ended_thrice_seen}
 use Rattle.history_laws.specs.Further.{given_back, given_back_seen}
 use Rattle.history_laws.specs.Further.{two_landed_late, two_landed_late_seen}
 use Rattle.history_laws.specs.Further.{port_changed, port_changed_seen}
 use Rattle.history_laws.specs.Further.{config_listed_anew, config_listed_anew_seen}
 use Rattle.history_laws.specs.Further.{shared, shared_seen}
-
--- an event that is shown once more is no newer
-two : 2 ≤ 2
-two = omega arith
-
-three : 3 ≤ 3
-three = omega arith
 
 shown_twice-runs : IsRun None (reverse shown_twice.run)
 unfolding first_fault entry_of address_of spelled read_ipv4 read_octet read_number encode_with digits decode_pairs is_utf8 chars
@@ -37,7 +33,7 @@ shown_twice-runs = (refl, (refl, (refl, ((refl, refl), (refl, (refl, (refl, (ref
 
 shown_twice-may : AreMoves shown_twice.moves (begun None shown_twice.store shown_twice.list) []
 unfolding first_fault entry_of address_of spelled read_ipv4 read_octet read_number encode_with digits decode_pairs is_utf8 chars
-shown_twice-may = (inl refl, (inl refl, (tt, (inr (2, service x bare, refl, two), (tt, (tt, (tt, (inr (3, service x (given first), refl, three), tt))))))))
+shown_twice-may = (inl refl, (inl refl, (tt, (inr refl, (tt, (tt, (tt, (inr refl, tt))))))))
 
 shown_twice-same : acts_of (run_along shown_twice.moves (begun None shown_twice.store shown_twice.list) []) ≡ acts_of (answered (reverse shown_twice.run))
 unfolding first_fault entry_of address_of spelled read_ipv4 read_octet read_number encode_with digits decode_pairs is_utf8 chars
@@ -61,7 +57,54 @@ unfolding first_fault entry_of address_of spelled read_ipv4 read_octet read_numb
 shown_twice-seen = record {
   good = good-store_of (objects.Pool pool ∷ objects.Service (service x bare) ∷ []);
   listed = (_, refl, ([], [], refl, refl));
-  may = (refl, (tt, (tt, (tt, (refl, (tt, (refl, (refl, tt))))))));
+  may = (tt, (tt, (tt, (tt, (tt, (tt, (refl, (refl, tt))))))));
+  same = refl;
+}
+
+gone_twice-runs : IsRun None (reverse gone_twice.run)
+unfolding first_fault entry_of address_of spelled read_ipv4 read_octet read_number encode_with digits decode_pairs is_utf8 chars
+gone_twice-runs = (refl, (refl, ((refl, refl), (refl, (refl, (refl, (refl, ((refl, refl), (refl, (refl, (refl, (refl, ((refl, refl), (refl, (refl, (refl, (refl, tt)))))))))))))))))
+
+gone_twice-may : AreMoves gone_twice.moves (begun None gone_twice.store gone_twice.list) []
+unfolding first_fault entry_of address_of spelled read_ipv4 read_octet read_number encode_with digits decode_pairs is_utf8 chars
+gone_twice-may = (inl refl, (inl refl, (tt, (tt, (tt, (tt, ((λ has. absurd (true≢false (sym has))), (tt, (tt, (tt, (tt, ((λ has. absurd (true≢false (sym has))), (inr refl, (tt, (tt, (tt, (tt, tt)))))))))))))))))
+
+gone_twice-same : acts_of (run_along gone_twice.moves (begun None gone_twice.store gone_twice.list) []) ≡ acts_of (answered (reverse gone_twice.run))
+unfolding first_fault entry_of address_of spelled read_ipv4 read_octet read_number encode_with digits decode_pairs is_utf8 chars
+gone_twice-same = refl
+
+gone_twice-is : IsTrue gone_twice
+unfolding first_fault entry_of address_of spelled read_ipv4 read_octet read_number encode_with digits decode_pairs is_utf8 chars
+gone_twice-is = record {
+  is_run = gone_twice-runs;
+  explained = record {
+    good = good-store_of (objects.Pool pool ∷ objects.Service (service x bare) ∷ []);
+    listed = (_, refl, ([], [], refl, refl));
+    running = (tt, (tt, (tt, (tt, (tt, (tt, (tt, (tt, (tt, (tt, (tt, (tt, (tt, (tt, (tt, (tt, (tt, tt)))))))))))))))));
+    may = gone_twice-may;
+    same = gone_twice-same;
+  };
+}
+
+gone_twice-seen : IsSeen gone_twice gone_twice_seen
+unfolding first_fault entry_of address_of spelled read_ipv4 read_octet read_number encode_with digits decode_pairs is_utf8 chars
+gone_twice-seen = record {
+  good = good-store_of (objects.Pool pool ∷ objects.Service (service x bare) ∷ []);
+  listed = (_, refl, ([], [], refl, refl));
+  may = (tt, (tt, (tt, (tt, (tt, ((λ has terms marked. absurd (true≢false (sym has))), (tt, (tt, (tt, (tt, ((λ has terms marked. absurd (true≢false (sym has))), (tt, (tt, (tt, (tt, (refl, (refl, tt)))))))))))))))));
+  same = refl;
+}
+
+ended_thrice-runs : IsRun None (reverse ended_thrice.run)
+unfolding first_fault entry_of address_of spelled read_ipv4 read_octet read_number encode_with digits decode_pairs is_utf8 chars
+ended_thrice-runs = (refl, (refl, (refl, (refl, ((refl, refl), (refl, (refl, ((refl, refl), (refl, (refl, (refl, (refl, (refl, tt)))))))))))))
+
+ended_thrice-seen : IsSeen ended_thrice ended_thrice_seen
+unfolding first_fault entry_of address_of spelled read_ipv4 read_octet read_number encode_with digits decode_pairs is_utf8 chars
+ended_thrice-seen = record {
+  good = good-store_of (objects.Pool pool ∷ objects.Service (service x bare) ∷ objects.Service (service y bare) ∷ []);
+  listed = (_, refl, (_ ∷ [], [], refl, ([], [], refl, refl)));
+  may = (tt, (tt, (tt, (tt, (tt, (tt, (tt, (tt, (tt, (refl, (refl, tt)))))))))));
   same = refl;
 }
 
@@ -236,7 +279,9 @@ shared-seen = record {
 }
 
 pub further_are_explained : FurtherAreExplained
-further_are_explained = (shown_twice-is, (given_back-is, (two_landed_late-is, (port_changed-is, (config_listed_anew-is, (shared-is, tt))))))
+further_are_explained =
+    ((shown_twice-is, (gone_twice-is, (given_back-is, (two_landed_late-is, (port_changed-is, (config_listed_anew-is, (shared-is, tt))))))), ended_thrice-runs)
 
 pub further_are_seen : FurtherAreSeen
-further_are_seen = (shown_twice-seen, given_back-seen, two_landed_late-seen, port_changed-seen, config_listed_anew-seen, shared-seen)
+further_are_seen =
+    (shown_twice-seen, gone_twice-seen, ended_thrice-seen, given_back-seen, two_landed_late-seen, port_changed-seen, config_listed_anew-seen, shared-seen)

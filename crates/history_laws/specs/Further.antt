@@ -1,5 +1,5 @@
 -- Histories that are less common: an event that comes twice, puts that land late in another order, terms that change.
-use Rattle.std.specs.Prelude.{ℕ, List, [], ◌∷◌, reverse, true, false, codes, ⊤}
+use Rattle.std.specs.Prelude.{ℕ, List, [], ◌∷◌, None, reverse, true, false, codes, ⊤}
 use Rattle.kube_model.specs.declared.event.Event.TheVariants.{Deleted}
 use Rattle.kube_model.specs.declared.event.ListGroup.TheVariants as groups
 use Rattle.kube_model.specs.declared.key.Key.{Key}
@@ -12,7 +12,7 @@ use Rattle.kube_model.specs.declared.service.Service.{Service}
 use Rattle.ip_ranges.specs.Values.{AddressValue}
 use Rattle.status_store.specs.declared.change.Outcome.TheVariants.{Delivered, Lost}
 use Rattle.status_store.specs.Changes.{empty_store}
-use Rattle.core_rules.specs.Run.{Took, Expired, Heard}
+use Rattle.core_rules.specs.Run.{Took, Expired, Heard, IsRun}
 use Rattle.world_rules.specs.Moves.{Sets, Deletes, Tells, Takes, Turns, ConfigExpires, Lands}
 use Rattle.world_rules.specs.Outside.{Happening, SetBy, DeletedBy, ReadsConfig, Reads, ReadsAgain}
 use Rattle.world_rules.specs.Outside.{Writes, ConfigRunsOut, LandsLate}
@@ -53,8 +53,60 @@ shown_twice = record {
 abbrev pub shown_twice_seen : List Happening
 shown_twice_seen =
     ReadsConfig (shows_pool 1) ∷ ReadsConfig config_end ∷ Reads ∷
-    ReadsAgain 2 (service x bare) ∷ Reads ∷ Writes (put_of x 2 (given first)) Delivered ∷
-    Reads ∷ ReadsAgain 3 (service x (given first)) ∷ []
+    ReadsAgain ∷ Reads ∷ Writes (put_of x 2 (given first)) Delivered ∷ Reads ∷ ReadsAgain ∷ []
+
+-- A service is deleted, which comes twice: the second time when another one has got its address, and it was created anew.
+abbrev pub gone_twice : History
+gone_twice = record {
+  store = store_of (
+      objects.Pool pool ∷ objects.Service (service x bare) ∷ []) empty_store;
+  list =
+      shows 2 (service x bare) ∷ services_end ∷ [];
+  moves =
+      Tells (shows_pool 1) ∷ Tells config_end ∷ Takes ∷ Takes ∷ Turns Delivered ∷ Takes ∷
+      Sets (objects.Service (service y bare)) bare ∷ Deletes kinds.Service x ∷ Takes ∷
+      Takes ∷ Turns Delivered ∷ Sets (objects.Service (service x bare)) bare ∷
+      Tells (Deleted kinds.Service x) ∷ Takes ∷ Takes ∷ Turns Delivered ∷ Takes ∷ [];
+  run =
+      Took (shows_pool 1) ∷ Took config_end ∷ Took (shows 2 (service x bare)) ∷
+      Took services_end ∷ puts x 2 (given first) ∷ Heard (Stored 3) ∷
+      Took (shows 3 (service x (given first))) ∷ Took (shows 4 (service y bare)) ∷
+      Took (Deleted kinds.Service x) ∷ puts y 4 (given first) ∷ Heard (Stored 6) ∷
+      Took (Deleted kinds.Service x) ∷ Took (shows 6 (service y (given first))) ∷
+      Took (shows 7 (service x bare)) ∷ puts x 7 (given second) ∷ Heard (Stored 8) ∷
+      Took (shows 8 (service x (given second))) ∷ [];
+}
+
+abbrev pub gone_twice_seen : List Happening
+gone_twice_seen =
+    ReadsConfig (shows_pool 1) ∷ ReadsConfig config_end ∷ Reads ∷ Reads ∷
+    Writes (put_of x 2 (given first)) Delivered ∷ Reads ∷
+    SetBy (objects.Service (service y bare)) bare ∷ DeletedBy kinds.Service x ∷ Reads ∷
+    Reads ∷ Writes (put_of y 4 (given first)) Delivered ∷
+    SetBy (objects.Service (service x bare)) bare ∷ ReadsAgain ∷ Reads ∷ Reads ∷
+    Writes (put_of x 7 (given second)) Delivered ∷ Reads ∷ []
+
+-- The end of the list of services comes three times, with a put after each. It is told as it is seen; that moves explain it follows (`seen_are_explained`).
+abbrev pub ended_thrice : History
+ended_thrice = record {
+  store = store_of (
+      objects.Pool pool ∷ objects.Service (service x bare) ∷ objects.Service (service y bare) ∷ []) empty_store;
+  list =
+      shows 3 (service y bare) ∷ shows 2 (service x bare) ∷ services_end ∷ [];
+  moves = [];
+  run =
+      Took (shows_pool 1) ∷ Took config_end ∷ Took (shows 3 (service y bare)) ∷
+      Took (shows 2 (service x bare)) ∷ Took services_end ∷ puts x 2 (given first) ∷
+      Heard (Stored 4) ∷ Took services_end ∷ puts y 3 (given second) ∷ Heard (Stored 5) ∷
+      Took services_end ∷ Took (shows 4 (service x (given first))) ∷
+      Took (shows 5 (service y (given second))) ∷ [];
+}
+
+abbrev pub ended_thrice_seen : List Happening
+ended_thrice_seen =
+    ReadsConfig (shows_pool 1) ∷ ReadsConfig config_end ∷ Reads ∷ Reads ∷ Reads ∷
+    Writes (put_of x 2 (given first)) Delivered ∷ ReadsAgain ∷
+    Writes (put_of y 3 (given second)) Delivered ∷ ReadsAgain ∷ Reads ∷ Reads ∷ []
 
 -- Of three services the last one waits for one of two addresses; the first is deleted, and its address goes to the one that waits.
 abbrev pub given_back : History
@@ -188,14 +240,18 @@ shared_seen =
     Writes (put_of x 2 (given_as (codes "v1;6b;T80;C") first)) Delivered ∷
     Writes (put_of z 3 (given_as (codes "v1;6b;T81;C") first)) Delivered ∷ Reads ∷ Reads ∷ []
 
--- each is a run of a core, which its world explains
+-- each is a run of a core, which its world explains; of `ended_thrice`, which has no moves, it is said that it is a run
 abbrev pub FurtherAreExplained : Type 0
-FurtherAreExplained = AreTrue (shown_twice ∷ given_back ∷ two_landed_late ∷ port_changed ∷ config_listed_anew ∷ shared ∷ [])
+FurtherAreExplained =
+    AreTrue (shown_twice ∷ gone_twice ∷ given_back ∷ two_landed_late ∷ port_changed ∷ config_listed_anew ∷ shared ∷ [])
+    × IsRun None (reverse ended_thrice.run)
 
 -- and is seen in a world without a core
 abbrev pub FurtherAreSeen : Type 0
 FurtherAreSeen =
     IsSeen shown_twice shown_twice_seen
+    × IsSeen gone_twice gone_twice_seen
+    × IsSeen ended_thrice ended_thrice_seen
     × IsSeen given_back given_back_seen
     × IsSeen two_landed_late two_landed_late_seen
     × IsSeen port_changed port_changed_seen

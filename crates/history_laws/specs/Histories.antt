@@ -146,7 +146,7 @@ adopted = record {
       Took (shows 5 (service y (given second))) ∷ [];
 }
 
--- The connection breaks while a put is out, which is stored: the watch of the services expires alone, and they are listed anew.
+-- The connection breaks while a put is in flight, which is stored: the watch of the services expires alone, and they are listed anew.
 abbrev pub one_watch_expired : History
 one_watch_expired = record {
   store = store_of (objects.Pool pool ∷ objects.Service (service x bare) ∷ []) empty_store;
@@ -157,7 +157,7 @@ one_watch_expired = record {
       Expired groups.Service ∷ Took (shows 3 (service x (given first))) ∷ Took services_end ∷ keeps x ∷ [];
 }
 
--- The configuration is shown behind all services, twice, and its last change late.
+-- The configuration is shown after all services, twice, and its last change late.
 abbrev pub config_late_and_twice : History
 config_late_and_twice = record {
   store = store_of (objects.Pool pool ∷ objects.Service (service x bare) ∷ []) empty_store;
@@ -193,7 +193,7 @@ beside_another = record {
       Took (shows 5 (service x (unmarked first))) ∷ puts x 5 (given first) ∷ Heard (Stored 6) ∷ [];
 }
 
--- The connection of a put breaks, and the controller goes on at once; the service is edited by nobody, and the put is stored after all, behind
+-- The connection of a put breaks, and the controller goes on at once; the service is edited by nobody, and the put is stored after all, after
 -- the turn of another service.
 abbrev pub landed_late : History
 landed_late = record {

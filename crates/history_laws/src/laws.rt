@@ -13,8 +13,10 @@ pub fn histories_are_seen()
     ensures { HistoriesAreSeen }
 {}
 
-/// So it is with histories that are less common: an event that comes twice in a row, an address given back to a service that waits, two puts that land
-/// late in the other order, a port that is changed, a configuration that is listed anew, and an address that is shared.
+/// So it is with histories that are less common: a service, a deletion and a list's end that come
+/// more than once in a row, an address given back to a service that waits, two puts that land late
+/// in the other order, a port that is changed, a configuration that is listed anew, and an address
+/// that is shared.
 pub fn further_histories()
     ensures explained { FurtherAreExplained }
     ensures seen { FurtherAreSeen }

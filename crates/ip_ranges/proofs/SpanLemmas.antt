@@ -3,7 +3,7 @@ use Rattle.std.proofs.Common.{◌≡◌, ◌≤◌, ◌↔◌, refl, sym, arith,
 use Rattle.std.specs.Prelude.{IsTrue, max}
 use Rattle.ip_ranges.specs.Values.{AddressValue, SpanValue, Holds}
 
--- ranges of one family, the first of which doesn't begin behind the other one's end
+-- ranges of one family, the first of which doesn't begin after the other one's end
 pub shared : (s t : SpanValue) → s.low ≤ s.high → t.low ≤ t.high → s.family ≡ t.family → s.low ≤ t.high
     → IsTrue (leb t.low s.high) ↔ ((a : AddressValue) × Holds s a × Holds t a)
 shared s t ordered ordered' same reach = (

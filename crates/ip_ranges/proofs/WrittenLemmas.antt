@@ -67,7 +67,7 @@ compressed_long groups segments run same is long =
     subst (λ t. groups_text (take run.0 groups) ++ (58 ∷ 58 ∷ []) ++ groups_text (drop (run.0 + run.1) groups) ≡ hex_groups_text t) same
     (rw (lt-ltb 1 (longest_zero_run groups).1 len, is) refl)
 
--- two colons between what stands before and behind them
+-- two colons between what stands before and after them
 pub then_colons : (start one two : List ℕ) (all : List ℕ) (rest : List ℕ) → one ≡ start ++ 58 ∷ [] → two ≡ one ++ 58 ∷ [] → all ≡ two ++ rest
     → all ≡ start ++ (58 ∷ 58 ∷ []) ++ rest
 then_colons start one two all rest e f g = g ∙ ap (λ t. t ++ rest) (then_two 58 58 start one two e f)

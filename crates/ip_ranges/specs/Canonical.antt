@@ -18,7 +18,7 @@ pub record IsField (text : List ℕ) (group : ℕ) : Type 0 where
   pub lower : AllByRecursion IsLowerHexDigit text
   pub no_leading_zero : 1 < length text → slice_index text 0 ≢ 48
 
--- fields, each behind a colon
+-- fields, each after a colon
 abbrev pub AreMoreFields : List ℕ → List ℕ → Type 0
 AreMoreFields text [] = text ≡ []
 AreMoreFields text (group ∷ groups) = (field rest : List ℕ) × (text ≡ codes ":" ++ field ++ rest) × IsField field group × AreMoreFields rest groups

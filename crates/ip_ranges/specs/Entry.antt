@@ -18,7 +18,7 @@ slash = 47
 abbrev pub HasNo : ℕ → List ℕ → Type 0
 HasNo byte text = (k : ℕ) → k < length text → slice_index text k ≢ byte
 
--- the text before the first such byte, and the text behind it
+-- the text before the first such byte, and the text after it
 pub record SplitsAt (byte : ℕ) (text before behind : List ℕ) : Type 0 where
   pub joined : text ≡ before ++ byte ∷ behind
   pub first : HasNo byte before

@@ -1,8 +1,10 @@
 //! The shortest list of prefixes that has exactly the addresses of a range.
-ghost use Rattle.std.specs.Prelude.{◌≡◌, ◌+◌, ◌*◌, ◌%◌, ◌^◌, ◌≤◌, ◌++◌, ◌&&◌, ◌||◌, nat_lt, nat_le, IsTrue, IfOk, OnOk, length, ◌==◌};
+ghost use Rattle.std.specs.Prelude.{◌≡◌, ◌+◌, ◌*◌, ◌%◌, ◌^◌, ◌≤◌, ◌++◌, ◌&&◌, ◌||◌, nat_lt, nat_le};
+ghost use Rattle.std.specs.Prelude.{IsTrue, IfOk, OnOk, length, ◌==◌};
 ghost use Rattle.std.specs.List.{AllByRecursion, list_any};
 ghost use Rattle.ip_ranges.specs.Values.{IsRange, width_of};
-ghost use Rattle.ip_ranges.specs.Cover.{IsCover, IsPart, IsPlaced, cover_of, cover_within, least_of, least_length_of};
+ghost use Rattle.ip_ranges.specs.Cover.{IsCover, IsPart, IsPlaced, cover_of, cover_within};
+ghost use Rattle.ip_ranges.specs.Cover.{least_of, least_length_of};
 
 use crate::prefix::low_ones;
 use crate::{Prefix, PrefixList, Span};
@@ -37,7 +39,8 @@ enum Part {
     Nothing,
     /// All of them.
     Whole { prefix: Prefix },
-    /// Some of them: those of its two halves, of `2^half` addresses each, the upper one from `middle` on.
+    /// Some of them: those of its two halves, of `2^half` addresses each, the upper one from
+    /// `middle` on.
     Halves { half: u8, middle: u128 },
 }
 

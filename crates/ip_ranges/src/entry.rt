@@ -1,12 +1,15 @@
 //! The entries of pools: a range `low-high`, or a prefix `address/length`.
 ghost use Rattle.std.specs.Prelude.{◌≡◌, ◌↔◌, Result, ◌<◌, ◌≤◌, ◌^◌, ◌-◌, ◌+◌, false, IfOk, IfSome};
 ghost use Rattle.std.specs.Net.Reader.{read_octet, whole_value};
-ghost use Rattle.ip_ranges.specs.Values.{AddressValue, SpanValue, IsOfFamily, IsRange, meets_mapped, width_of};
+ghost use Rattle.ip_ranges.specs.Values.{AddressValue, SpanValue, IsOfFamily, IsRange};
+ghost use Rattle.ip_ranges.specs.Values.{meets_mapped, width_of};
 ghost use Rattle.ip_ranges.specs.declared.fault.RangeFault.{RangeFault};
 ghost use Rattle.ip_ranges.specs.AddressText.{address_of};
 ghost use Rattle.ip_ranges.specs.Entry.{IsEntry};
-ghost use Rattle.ip_ranges.specs.EntryText.{entry_of, written_span, range_of, prefix_of, span_between, trimmed};
-ghost use Rattle.ip_ranges.specs.EntryText.{trim_start, trim_end, is_blank, length_within, is_padded};
+ghost use Rattle.ip_ranges.specs.EntryText.{entry_of, written_span, range_of, prefix_of};
+ghost use Rattle.ip_ranges.specs.EntryText.{span_between, trimmed};
+ghost use Rattle.ip_ranges.specs.EntryText.{trim_start, trim_end, is_blank, length_within};
+ghost use Rattle.ip_ranges.specs.EntryText.{is_padded};
 
 use crate::prefix::mask;
 use crate::text::read_address;

@@ -1,8 +1,13 @@
 //! Addresses of both families, their texts, and ranges of them.
 //!
 //! Texts are those of RFC 4291, section 2.2, and are printed as RFC 5952, section 4, has it. An
-//! IPv4-mapped address, of `::ffff:0:0/96`, is never read. A range is covered by the fewest prefixes
-//! that have exactly its addresses.
+//! IPv4-mapped address, of `::ffff:0:0/96`, is never read. A range is covered by the fewest
+//! prefixes that have exactly its addresses.
+//!
+//! Address texts are read and printed by std's `Ipv4Addr` and `Ipv6Addr`; what std prints with a
+//! dotted tail is printed in groups.
+//!
+//! One printer writes addresses into a buffer, since std's `Display` may fail without a reason.
 #![tactic(auto)]
 
 mod address;

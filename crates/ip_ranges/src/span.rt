@@ -1,6 +1,7 @@
 //! Ranges of addresses.
 ghost use Rattle.std.specs.Prelude.{◌≡◌, ◌↔◌, IsTrue};
-ghost use Rattle.ip_ranges.specs.Values.{AddressValue, IsRange, IsOfFamily, Holds, holds, overlaps, meets_mapped, only};
+ghost use Rattle.ip_ranges.specs.Values.{AddressValue, IsRange, IsOfFamily, Holds, holds, overlaps};
+ghost use Rattle.ip_ranges.specs.Values.{meets_mapped, only};
 
 use crate::{Address, Family};
 use mlb_base::{NoMemory, Sequence, TryCopy};
@@ -74,7 +75,8 @@ impl Span {
         }
     }
 
-    /// Whether the range has an IPv4-mapped address, of `::ffff:0:0/96` (RFC 4291, section 2.5.5.2).
+    /// Whether the range has an IPv4-mapped address, of `::ffff:0:0/96` (RFC 4291, section
+    /// 2.5.5.2).
     pub(crate) fn meets_mapped(&self) -> bool
         ensures { result ≡ meets_mapped self.now }
     {

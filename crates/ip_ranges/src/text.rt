@@ -1,7 +1,9 @@
 //! The texts of addresses (RFC 4291, section 2.2; RFC 5952, section 4).
-ghost use Rattle.std.specs.Prelude.{◌≡◌, ◌<◌, ◌↔◌, ◌⊎◌, All, Some, Ok, IfOk, IfErr, IfSome, string_bytes};
+ghost use Rattle.std.specs.Prelude.{◌≡◌, ◌<◌, ◌↔◌, ◌⊎◌, All, Some, Ok, IfOk, IfErr, IfSome};
+ghost use Rattle.std.specs.Prelude.{string_bytes};
 ghost use Rattle.ip_ranges.specs.Values.{AddressValue, IsOfFamily, IsMapped, meets_mapped, only};
-ghost use Rattle.ip_ranges.specs.AddressText.{IsAddressText, address_of, spelled, unmapped, canonical_text};
+ghost use Rattle.ip_ranges.specs.AddressText.{IsAddressText, address_of, spelled, unmapped};
+ghost use Rattle.ip_ranges.specs.AddressText.{canonical_text};
 ghost use Rattle.ip_ranges.specs.Canonical.{IsCanonical};
 
 use crate::written::write_address;
@@ -20,7 +22,8 @@ pub fn parse_address(text: &str) -> Result<Address, RangeFault>
     ensures in_family { IfOk result IsOfFamily }
 
     // Read exactly where it is spelled and not IPv4-mapped, refused exactly in the other two cases.
-    ensures ok { (a : AddressValue) → (result ≡ Ok a) ↔ (IsAddressText text.now a × (¬ IsMapped a)) }
+    ensures ok { (a : AddressValue)
+        → (result ≡ Ok a) ↔ (IsAddressText text.now a × (¬ IsMapped a)) }
     ensures not_address { (result ≡ Err RangeFault.NotAddress)
         ↔ ((a : AddressValue) → ¬ IsAddressText text.now a) }
     ensures mapped { (result ≡ Err RangeFault.Mapped)

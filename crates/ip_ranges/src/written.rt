@@ -1,5 +1,6 @@
 //! The text of an address in a buffer of the caller's.
-ghost use Rattle.std.specs.Prelude.{◌≡◌, ◌+◌, ◌*◌, ◌-◌, ◌<◌, ◌≤◌, ◌++◌, ◌∷◌, [], length, take, drop, decimal, All, Ok};
+ghost use Rattle.std.specs.Prelude.{◌≡◌, ◌+◌, ◌*◌, ◌-◌, ◌<◌, ◌≤◌, ◌++◌, ◌∷◌, [], length, take};
+ghost use Rattle.std.specs.Prelude.{drop, decimal, All, Ok};
 ghost use Rattle.std.specs.Char.{digit_char};
 ghost use Rattle.std.specs.Net.Text.{hex, groups_text, longest_zero_run};
 ghost use Rattle.ip_ranges.specs.AddressText.{address_of, canonical_text, text_in};
@@ -9,8 +10,8 @@ ghost use Rattle.ip_ranges.specs.Values.{IsMapped, IsOfFamily};
 use crate::{Address, Family};
 use std::net::{Ipv4Addr, Ipv6Addr};
 
-/// Writes the text that `print_address` gives to the front of the buffer, and answers its length. It
-/// takes no memory. What the buffer has behind the text is not stated.
+/// Writes the text that `print_address` gives to the front of the buffer, and answers its length.
+/// It takes no memory. What the buffer has after the text is not stated.
 pub fn write_address(address: &Address, buf: &mut [u8; 39]) -> usize
     ensures text { take result buf.new ≡ canonical_text address.now }
     ensures canonical { IsCanonical (take result buf.new) address.now }

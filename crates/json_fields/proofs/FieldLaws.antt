@@ -12,7 +12,7 @@ then_through (Ok None) go next whole same = refl
 then_through (Ok (Some d)) go next whole same = same d
 then_through (Err path) go next whole same = refl
 
--- names, and behind them others
+-- names, and after them others
 pub behind-append : (path : Path) (front names : List Path) (d : Data)
     → behind path (front ++ names) d ≡ (behind path front d >>= where_there (behind path names))
 unfolding behind

@@ -1,4 +1,4 @@
--- What a JSON value stands for, or the path of the first field in it that is not as stated.
+-- What a JSON value stands for, or the path of the first field in it that is invalid.
 use Rattle.std.specs.Prelude.{◌≡◌, ℕ, ◌+◌, ◌&&◌, List, [], ◌∷◌, Bool, false, Option, Some, None, Result, Ok}
 use Rattle.std.specs.Prelude.{Err, is_some, option_and_then, unwrap_or, nat_le, if◌then◌else◌, length, ◌==◌, ⊤}
 use Rattle.std.specs.Str.{bytes_eq}
@@ -54,7 +54,7 @@ abbrev pub where_there : {A : Type 0} → (Data → Result (Option A) Path) → 
 where_there go None = Ok None
 where_there go (Some d) = go d
 
--- what stands behind these names, one inside the other
+-- what stands after these names, one inside the other
 unfoldable pub behind : Path → List (List ℕ) → Data → Result (Option Data) Path
 behind path [] d = Ok (Some d)
 behind path (name ∷ names) d = do

@@ -10,7 +10,7 @@ use std::alloc::{AllocError, AllocFailed, Global};
 /// Why a field was not read.
 #[derive(Debug, Drop)]
 pub enum FieldFault {
-    /// The field at this path is not as stated.
+    /// The field at this path is invalid.
     Faulty(Text),
     NoMemory,
 }

@@ -1,5 +1,6 @@
 //! What holds of every field.
-ghost use Rattle.json_fields.specs.Laws.{MemberOffPath, NullIsAbsent, AbsentParent, ParentIsNoObject};
+ghost use Rattle.json_fields.specs.Laws.{MemberOffPath, NullIsAbsent, AbsentParent};
+ghost use Rattle.json_fields.specs.Laws.{ParentIsNoObject};
 
 /// A member off a path leaves what stands at the path alone.
 pub fn member_off_path()

@@ -7,7 +7,8 @@ use mlb_base::NoMemory;
 use serde_json::Value;
 use std::alloc::Global;
 
-/// The JSON value that the bytes are the text of (RFC 8259), or nothing where they are that of none.
+/// The JSON value that the bytes are the text of (RFC 8259), or nothing where they are that of
+/// none.
 pub fn read_value(alloc: Global, line: &[u8]) -> Result<Option<Value>, NoMemory>
     ensures { IfOk result (λ found. option_map view found ≡ value_of_line line.now) }
 {

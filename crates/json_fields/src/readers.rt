@@ -3,7 +3,8 @@ ghost use Rattle.std.specs.Prelude.{Result, []};
 ghost use Rattle.serde_json.specs.Data.{Data};
 ghost use Rattle.serde_json.specs.View.{view};
 ghost use Rattle.json_fields.specs.Path.{Path};
-ghost use Rattle.json_fields.specs.Reading.{Gives, or_itself, default_at, tells_at, optional_at, required_at, labels_at, list_at, text_of, bool_of};
+ghost use Rattle.json_fields.specs.Reading.{Gives, or_itself, default_at, tells_at, optional_at};
+ghost use Rattle.json_fields.specs.Reading.{required_at, labels_at, list_at, text_of, bool_of};
 
 use crate::fault::FieldFault;
 use crate::place::find;

@@ -2,7 +2,8 @@
 ghost use Rattle.serde_json.specs.View.{view, members_view};
 ghost use Rattle.std.specs.Prelude.{◌≡◌, [], OnOk};
 ghost use Rattle.kube_labels.specs.Pairs.{with_pair};
-ghost use Rattle.json_fields.specs.Reading.{Gives, labels_of, pairs_after, name_at, object_of, GivesIf};
+ghost use Rattle.json_fields.specs.Reading.{Gives, labels_of, pairs_after, name_at, object_of};
+ghost use Rattle.json_fields.specs.Reading.{GivesIf};
 
 use crate::fault::FieldFault;
 use crate::readers::{FromValue, required};

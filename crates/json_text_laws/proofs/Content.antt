@@ -70,7 +70,7 @@ unit_of a b c d u e =
     let value_d = ltb-true (digit_value d) 16 three.1 in
     record { first = hex_ascii a one.0; second = hex_ascii b one.1; third = hex_ascii c two.1; fourth = hex_ascii d three.1; fits = omega (arith, both.1) }
 
--- what stands behind four hex digits
+-- what stands after four hex digits
 behind_four : (a b c d u : ℕ) (xs : List ℕ) → Unit16 a b c d u → IsUtf8 (a ∷ b ∷ c ∷ d ∷ xs) → IsUtf8 xs
 behind_four a b c d u xs h t =
     behind_ascii d xs h.fourth (behind_ascii c (d ∷ xs) h.third (behind_ascii b (c ∷ d ∷ xs) h.second (behind_ascii a (b ∷ c ∷ d ∷ xs) h.first t)))

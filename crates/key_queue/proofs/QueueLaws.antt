@@ -66,7 +66,7 @@ module _ {K : Type 0} (eq : K → K → Bool) where
   distinct_left [] ys d = tt
   distinct_left (x ∷ xs) ys d = (all-left (λ y. eq x y ≡ false) xs ys d.0, distinct_left xs ys d.1)
 
-  -- and so are those behind them
+  -- and so are those after them
   pub distinct_right : (xs ys : List K) → AreDistinct eq (xs ++ ys) → AreDistinct eq ys
   unfolding IsDistinct
   distinct_right [] ys d = d
@@ -124,7 +124,7 @@ module _ {K : Type 0} {eq : K → K → Bool} (laws : IsEquivalence eq) where
   pub queued_all-new : (keys more : List K) → AreNew eq keys more → queued_all eq keys more ≡ keys ++ more
   queued_all-new keys more new = new-by more keys new.absent new.distinct
 
-  -- distinct keys, and new ones behind them, are distinct
+  -- distinct keys, and new ones after them, are distinct
   pub AreDistinct-append : (keys more : List K) → AreDistinct eq keys → AreNew eq keys more → AreDistinct eq (keys ++ more)
   AreDistinct-append keys more d new = subst (AreDistinct eq) (queued_all-new keys more new) (distinct_queued_all more keys d)
 
@@ -152,7 +152,7 @@ module _ {K : Type 0} (eq : K → K → Bool) where
   pub queued_in_front : (front back : List K) (key : K) → list_any (eq key) front ≡ true → queued eq (in_order front back) key ≡ in_order front back
   queued_in_front front back key there = queued-there eq (in_order front back) key (any_in_order (eq key) front back ∙ or_left _ _ there)
 
-  -- another is queued in the set behind
+  -- another is queued in the set after
   pub queued_behind : (front back : List K) (key : K) → list_any (eq key) front ≡ false
       → queued eq (in_order front back) key ≡ in_order front (queued eq back key)
   queued_behind front back key absent =
@@ -201,7 +201,7 @@ module _ {K : Type 0} where
   take-past (x ∷ xs) ys zero m e = absurd (let no : ⊥ = omega arith in no)
   take-past (x ∷ xs) ys (suc n) m e = ap (λ ks. x ∷ ks) (take-past xs ys n m (omega arith))
 
-  -- where all keys at the front stay, the others are cut behind them
+  -- where all keys at the front stay, the others are cut after them
   pub cut_behind : (front back cut : List K) (n in_front : ℕ) → in_front ≡ length front → in_front ≤ n → cut ≡ take (n - in_front) back
       → in_order front cut ≡ take n (in_order front back)
   cut_behind front back cut n in_front long within is =

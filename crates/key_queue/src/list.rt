@@ -9,8 +9,8 @@ use std::alloc::Global;
 use std::collections::BTreeMap;
 use std::marker::Model;
 
-/// A list of distinct keys, which contracts see in the order in which they came. A key is found, put at the end and taken out
-/// anywhere in the logarithm of their number, in comparisons of keys.
+/// A list of distinct keys, which contracts see in the order in which they came. A key is found,
+/// put at the end and taken out anywhere in the logarithm of their number, in comparisons of keys.
 pub struct KeyList<K: Ord> {
     /// The number of each key. One that came later has a greater one.
     numbers: BTreeMap<K, u64>,
@@ -61,8 +61,8 @@ impl<K: Ord> KeyList<K> {
 }
 
 impl<K: Ord + Drop> KeyList<K> {
-    /// The key to the end of the list, where it isn't in it yet. After want of memory, or once 2^64 - 1 keys have come, the list is
-    /// unchanged.
+    /// The key to the end of the list, where it isn't in it yet. Where memory ran out, or once 2^64
+    /// - 1 keys have come, the list is unchanged.
     pub fn push(&mut self, key: K) -> Result<(), NoMemory>
         ensures ok { OnOk result (self.new ≡ queued K.eq self.old key) }
         ensures err { OnErr result (self.new ≡ self.old) }

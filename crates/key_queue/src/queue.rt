@@ -1,5 +1,6 @@
 //! A queue of distinct keys.
-ghost use Rattle.std.specs.Prelude.{◌≡◌, ◌==◌, ◌∷◌, ◌++◌, [], not, filter, take, drop, length, slice_get, OnOk, OnErr};
+ghost use Rattle.std.specs.Prelude.{◌≡◌, ◌==◌, ◌∷◌, ◌++◌, [], not, filter, take, drop, length};
+ghost use Rattle.std.specs.Prelude.{slice_get, OnOk, OnErr};
 ghost use Rattle.std.specs.List.{list_any};
 ghost use Rattle.std.specs.Option.{option_copied};
 ghost use Rattle.key_queue.specs.Queue.{in_order, queued, queued_all, AreDistinct};
@@ -23,13 +24,14 @@ pub trait KeyTest<K> {
 
 /// A queue of distinct keys, which contracts see as the list of its keys, the front first.
 ///
-/// Keys are found by their hashes. Their seed is fixed, so whoever chooses keys can choose such that collide, and a key is then looked
-/// for among all of these. To take the first key of a hash set moves all behind it, so the keys at the front are kept in
-/// reverse, in a set whose last key leaves. Where none is left there, the keys behind are turned over, each once on its way through.
+/// Keys are found by their hashes. Their seed is fixed, so whoever chooses keys can choose such
+/// that collide, and a key is then looked for among all of these. To take the first key of a hash
+/// set moves all after it, so the keys at the front are kept in reverse, in a set whose last key
+/// leaves. Where none is left there, the keys after are turned over, each once on its way through.
 pub struct KeyQueue<K: Eq + Hash> {
     /// The keys at the front, the first one last.
     front: IndexSet<K>,
-    /// Those behind them, in their order.
+    /// Those after them, in their order.
     back: IndexSet<K>,
 }
 
@@ -96,8 +98,8 @@ impl<K: Eq + Hash> KeyQueue<K> {
 }
 
 impl<K: Eq + Hash + Drop> KeyQueue<K> {
-    /// The keys to the back of the queue, in their order, each that isn't in the queue yet. After want of memory the queue is
-    /// unchanged.
+    /// The keys to the back of the queue, in their order, each that isn't in the queue yet. Where
+    /// memory ran out the queue is unchanged.
     pub fn append(&mut self, keys: Vec<K>) -> Result<(), NoMemory>
         ensures ok { OnOk result (self.new ≡ queued_all K.eq self.old keys.items) }
         ensures err { OnErr result (self.new ≡ self.old) }
@@ -115,7 +117,8 @@ impl<K: Eq + Hash + Drop> KeyQueue<K> {
         Ok(())
     }
 
-    /// The key to the back of the queue, where it isn't in the queue yet. After want of memory the queue is unchanged.
+    /// The key to the back of the queue, where it isn't in the queue yet. Where memory ran out the
+    /// queue is unchanged.
     #[tactic(auto, using(crate::proofs::QueueLaws::queued_behind, crate::proofs::QueueLaws::queued_in_front))]
     pub fn push(&mut self, key: K) -> Result<(), NoMemory>
         ensures ok { OnOk result (self.new ≡ queued K.eq self.old key) }
@@ -127,8 +130,8 @@ impl<K: Eq + Hash + Drop> KeyQueue<K> {
         Ok(())
     }
 
-    /// Takes the key at the front out. It takes no memory. Where no key is left at the front, those behind are turned over first,
-    /// in the time that it takes to go through them.
+    /// Takes the key at the front out. It takes no memory. Where no key is left at the front, those
+    /// after are turned over first, in the time that it takes to go through them.
     #[tactic(auto, using(crate::proofs::QueueLaws::distinct_rest))]
     pub fn pop_first(&mut self) -> Option<K>
         ensures key { result ≡ slice_get self.old 0 }
@@ -138,8 +141,8 @@ impl<K: Eq + Hash + Drop> KeyQueue<K> {
         self.front.pop()
     }
 
-    /// Keeps so many keys at the front, and drops the others. It takes no memory. It goes through the keys at the front only where some
-    /// of them are dropped.
+    /// Keeps so many keys at the front, and drops the others. It takes no memory. It goes through
+    /// the keys at the front only where some of them are dropped.
     #[tactic(auto, using(crate::proofs::QueueLaws::cut_behind))]
     pub fn truncate(&mut self, len: usize)
         ensures { self.new ≡ take len self.old }
@@ -155,8 +158,8 @@ impl<K: Eq + Hash + Drop> KeyQueue<K> {
         }
     }
 
-    /// Drops the key that is equal to this one, where there is one. It takes no memory, and moves the keys that stand behind it in its
-    /// set.
+    /// Drops the key that is equal to this one, where there is one. It takes no memory, and moves
+    /// the keys that stand after it in its set.
     #[tactic(auto, using(crate::proofs::QueueLaws::removed_in_order, crate::proofs::QueueLaws::distinct_filter))]
     pub fn remove(&mut self, key: &K)
         ensures { self.new ≡ filter (λ k. not (K.eq key.now k)) self.old }
@@ -182,7 +185,8 @@ impl<K: Eq + Hash + Drop> KeyQueue<K> {
     }
 }
 
-/// Where no key is left at the front, all those behind become the front. Their order is the same after it.
+/// Where no key is left at the front, all those after become the front. Their order is the same
+/// after it.
 fn turn_over<K: Eq + Hash>(front: &mut IndexSet<K>, back: &mut IndexSet<K>)
     ensures order { in_order front.new.keys back.new.keys ≡ in_order front.old.keys back.old.keys }
     ensures ready { front.new.keys ≡ [] → back.new.keys ≡ [] }

@@ -4,7 +4,8 @@ ghost use Rattle.std.specs.Result.{result_ok};
 ghost use Rattle.std.specs.List.{list_all};
 ghost use Rattle.std.specs.Char.{is_ascii_digit};
 ghost use Rattle.ip_ranges.specs.AddressText.{address_of};
-ghost use Rattle.kube_events.specs.Named.{family_named, version_named, family_of, version_of, address_in};
+ghost use Rattle.kube_events.specs.Named.{family_named, version_named, family_of, version_of};
+ghost use Rattle.kube_events.specs.Named.{address_in};
 
 use ip_ranges::{Address, Family, parse_address};
 use json_fields::{FieldFault, FromValue, or_faulty};

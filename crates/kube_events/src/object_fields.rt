@@ -2,7 +2,8 @@
 ghost use Rattle.std.specs.Prelude.{◌≡◌};
 ghost use Rattle.serde_json.specs.View.{view};
 ghost use Rattle.json_fields.specs.Reading.{Gives};
-ghost use Rattle.kube_events.specs.ObjectFields.{body_of, object_with, stated_object, changed_of, deleted_of};
+ghost use Rattle.kube_events.specs.ObjectFields.{body_of, object_with, stated_object, changed_of};
+ghost use Rattle.kube_events.specs.ObjectFields.{deleted_of};
 
 use crate::bgp_fields::{BgpSpec, bgp_spec, bgp_with};
 use crate::community_fields::named_values;

@@ -2,7 +2,8 @@
 ghost use Rattle.std.specs.Prelude.{◌≡◌, codes, option_map};
 ghost use Rattle.serde_json.specs.Find.{get};
 ghost use Rattle.serde_json.specs.View.{view};
-ghost use Rattle.kube_events.specs.Event.{GivesEvent, bookmark_of, ends_list, listed_in, says, watched, of_type, event_of, event_of_line, text_in};
+ghost use Rattle.kube_events.specs.Event.{GivesEvent, bookmark_of, ends_list, listed_in, says};
+ghost use Rattle.kube_events.specs.Event.{watched, of_type, event_of, event_of_line, text_in};
 
 use crate::frame::frame_from;
 use crate::members::members_from;
@@ -108,10 +109,10 @@ fn event_from(alloc: Global, line: &Value) -> Result<Event, EventFault>
     }
 }
 
-/// The event of a line, or the first thing in it that is not as stated.
+/// The event of a line, or the first thing in it that is invalid.
 ///
 /// `NotJson` where it is no JSON text (RFC 8259) that is nested at most 127 deep; `NotEvent` where its type or its
-/// object isn't one that is read; `Field` with the path of the first field that isn't as stated.
+/// object isn't one that is read; `Field` with the path of the first field that is invalid.
 #[tactic(auto, unfolding(crate::specs::Event::event_of_line))]
 pub fn read_event(alloc: Global, line: &[u8]) -> Result<Event, EventFault>
     ensures { GivesEvent result (event_of_line line.now) }

@@ -2,7 +2,8 @@
 ghost use Rattle.std.specs.Prelude.{◌≡◌, IfOk};
 ghost use Rattle.serde_json.specs.View.{view};
 ghost use Rattle.json_fields.specs.Reading.{Gives};
-ghost use Rattle.kube_events.specs.ServiceFields.{families_at, families_from, notes_in, notes_of, request_of, traffic_of};
+ghost use Rattle.kube_events.specs.ServiceFields.{families_at, families_from, notes_in, notes_of};
+ghost use Rattle.kube_events.specs.ServiceFields.{request_of, traffic_of};
 ghost use Rattle.kube_events.specs.ServiceFields.{ingress_of, addresses_in, recorded_of, service_of, spec_with, service_with};
 
 use crate::fields::{in_turn, pair_value};
@@ -146,7 +147,8 @@ fn traffic_from(alloc: Global, object: &Value) -> Result<Traffic, FieldFault>
     })
 }
 
-/// One of the places where the service is reached, which contracts see as its address, where it has one.
+/// One of the places where the service is reached, which contracts see as its address, where it has
+/// one.
 #[derive(Drop)]
 struct Ingress {
     address: Option<SpelledAddress>,

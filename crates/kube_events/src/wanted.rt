@@ -24,7 +24,8 @@ fn spelled_all(alloc: Global, parts: &[&str]) -> Result<Option<AddressList>, NoM
 
 /// The parts of the text between its commas.
 fn comma_parts(alloc: Global, text: &str) -> Result<Vec<&str>, AllocError>
-    ensures { IfOk result (λ parts. map (λ part. part.now) parts.items ≡ slice_split (λ c. c == 44) text.now) }
+    ensures { IfOk result (λ parts. map (λ part. part.now) parts.items
+        ≡ slice_split (λ c. c == 44) text.now) }
 {
     text.split(',').collect(alloc)
 }

@@ -9,8 +9,8 @@ use std::collections::BTreeMap;
 use std::collections::btree_map::Iter;
 use std::marker::Model;
 
-/// Names with values, as in `metadata.labels` (Kubernetes, "Labels and Selectors"). Contracts see the
-/// pairs, whose names ascend by their bytes, so that no two are the same.
+/// Names with values, as in `metadata.labels` (Kubernetes, "Labels and Selectors"). Contracts see
+/// the pairs, whose names ascend by their bytes, so that no two are the same.
 #[derive(Debug)]
 pub struct Labels {
     values: BTreeMap<String, Text>,

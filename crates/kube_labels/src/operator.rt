@@ -2,7 +2,8 @@ ghost use Rattle.std.specs.Prelude.{◌≡◌, ◌↔◌};
 ghost use Rattle.kube_labels.specs.declared.operator.Operator.{Operator};
 ghost use Rattle.kube_labels.specs.Operators.{name_of, operator_named};
 
-/// How an expression of a selector tests a key (Kubernetes, "Labels and Selectors", set-based requirement).
+/// How an expression of a selector tests a key (Kubernetes, "Labels and Selectors", set-based
+/// requirement).
 #[derive(Clone, Copy, Debug, PartialEq, Eq)]
 pub enum Operator {
     /// The key is there with a listed value.

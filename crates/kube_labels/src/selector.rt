@@ -42,8 +42,8 @@ impl Model for Selector {
 }
 
 impl Selector {
-    /// The selector that wants these labels and expressions. It is refused exactly where an expression is
-    /// at fault, and the fault is that of the first. It takes no memory.
+    /// The selector that wants these labels and expressions. It is refused exactly where an
+    /// expression is at fault, and the fault is that of the first. It takes no memory.
     pub fn new(labels: Labels, expressions: ExpressionList) -> Result<Selector, SelectorFault>
         ensures value { result ≡ selector_of labels expressions }
         ensures accepted { IsOk result ↔ All IsWellFormed expressions }
@@ -59,8 +59,8 @@ impl Selector {
         }
     }
 
-    /// Whether each label that is wanted is there, with its value, and each expression holds. The empty
-    /// selector matches all. It takes no memory.
+    /// Whether each label that is wanted is there, with its value, and each expression holds. The
+    /// empty selector matches all. It takes no memory.
     pub fn matches(&self, labels: &Labels) -> bool
         ensures value { result ≡ matches self.now labels.now }
         ensures meaning { IsTrue result ↔ Matches self.now labels.now }

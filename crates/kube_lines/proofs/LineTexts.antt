@@ -47,7 +47,7 @@ items_text-strings (address ∷ []) = refl
 items_text-strings (address ∷ next ∷ addresses) = ap (λ (rest : List ℕ). quoted (canonical_text address) ++ rest) (later next addresses)
     ∙ sym (append_assoc (quoted (canonical_text address)) (44 ∷ quoted_texts (map canonical_text (next ∷ addresses))) (93 ∷ []))
 
--- one more value behind those of the addresses so far
+-- one more value after those of the addresses so far
 pub strings_more : (values more : List Value) (value : Value) (addresses : List AddressValue) (i : ℕ) (address : AddressValue) → more ≡ values ++ value ∷ []
     → i < length addresses → address ≡ get_or addresses i address → view value ≡ address_string address
     → map view values ≡ map address_string (take i addresses) → map view more ≡ map address_string (take (i + 1) addresses)

@@ -1,4 +1,7 @@
 //! The lines that are written, and the replies that are read.
+//!
+//! What is told of lines are values of JSON, and their text is what the kit says that such a
+//! value's compact text is; no second text stands beside it.
 #![tactic(auto)]
 
 mod laws;

@@ -4,10 +4,13 @@ ghost use Rattle.serde_json.specs.View.{view, members_view};
 ghost use Rattle.serde_json.specs.Data.{array, string, object, no_members};
 ghost use Rattle.serde_json.specs.Written.{has_float, compact_text};
 ghost use Rattle.ip_ranges.specs.AddressText.{canonical_text};
-ghost use Rattle.kube_lines.specs.OutputLines.{put_text, put_data, address_strings, pending_text, pending_data, accepted_text, refused_text};
-ghost use Rattle.kube_lines.specs.OutputLines.{refused_data, is_taken, took_text, took_data, announce_text, withdraw_text, address_data};
+ghost use Rattle.kube_lines.specs.OutputLines.{put_text, put_data, address_strings, pending_text};
+ghost use Rattle.kube_lines.specs.OutputLines.{pending_data, accepted_text, refused_text};
+ghost use Rattle.kube_lines.specs.OutputLines.{refused_data, is_taken, took_text, took_data};
+ghost use Rattle.kube_lines.specs.OutputLines.{announce_text, withdraw_text, address_data};
 ghost use Rattle.kube_lines.specs.OutputLines.{seen_text, seen_data, send_text, send_data, update_text, update_data, record_text, record_data};
-ghost use Rattle.kube_lines.specs.OutputLines.{trial_text, trial_data, pair_text, pair_number, with_texts, with_numbers, with_addresses};
+ghost use Rattle.kube_lines.specs.OutputLines.{trial_text, trial_data, pair_text, pair_number};
+ghost use Rattle.kube_lines.specs.OutputLines.{with_texts, with_numbers, with_addresses};
 ghost use Rattle.kube_lines.specs.OutputLines.{told_data, bytes_data};
 
 use ip_ranges::{Address, print_address};
@@ -73,13 +76,16 @@ fn put_numbers(
     Ok(())
 }
 
-/// An object of the texts and the numbers, by their names, in the byte order of these; of two with one name the later one. Texts come before numbers.
+/// An object of the texts and the numbers, by their names, in the byte order of these; of two with
+/// one name the later one. Texts come before numbers.
 pub fn object_value(
     alloc: Global,
     texts: &[(&str, &str)],
     numbers: &[(&str, u64)],
 ) -> Result<Value, NoMemory>
-    ensures { IfOk result (λ v. view v ≡ object (with_numbers (map pair_number numbers.now) (with_texts (map pair_text texts.now) no_members))) }
+    ensures { IfOk result (λ v. view v
+        ≡ object (with_numbers (map pair_number numbers.now)
+        (with_texts (map pair_text texts.now) no_members))) }
 {
     let mut members = Map::new(alloc);
     match put_both(&mut members, alloc, texts, numbers) {
@@ -99,7 +105,8 @@ fn put_both(
     numbers: &[(&str, u64)],
 ) -> Result<(), NoMemory>
     ensures { OnOk result (members_view members.new.entries
-        ≡ with_numbers (map pair_number numbers.now) (with_texts (map pair_text texts.now) (members_view members.old.entries))) }
+        ≡ with_numbers (map pair_number numbers.now)
+        (with_texts (map pair_text texts.now) (members_view members.old.entries))) }
 {
     put_texts(members, alloc, texts)?;
     put_numbers(members, alloc, numbers)
@@ -113,7 +120,8 @@ fn addressed_value(
     numbers: &[(&str, u64)],
 ) -> Result<Value, NoMemory>
     ensures { IfOk result (λ v. view v ≡ object (with_addresses addresses.now
-        (with_numbers (map pair_number numbers.now) (with_texts (map pair_text texts.now) no_members)))) }
+        (with_numbers (map pair_number numbers.now)
+        (with_texts (map pair_text texts.now) no_members)))) }
 {
     let mut members = Map::new(alloc);
     match put_all(&mut members, alloc, addresses, texts, numbers) {
@@ -134,7 +142,8 @@ fn put_all(
     numbers: &[(&str, u64)],
 ) -> Result<(), NoMemory>
     ensures { OnOk result (members_view members.new.entries ≡ with_addresses addresses.now
-        (with_numbers (map pair_number numbers.now) (with_texts (map pair_text texts.now) (members_view members.old.entries)))) }
+        (with_numbers (map pair_number numbers.now)
+        (with_texts (map pair_text texts.now) (members_view members.old.entries)))) }
 {
     put_both(members, alloc, texts, numbers)?;
     put_member(
@@ -235,8 +244,8 @@ fn took_value(alloc: Global, lane: LaneName, number: u64) -> Result<Value, NoMem
     )
 }
 
-/// The line that tells that the event of a lane's line was taken: the line of this number, from 1. Events are taken
-/// of each lane but the input.
+/// The line that tells that the event of a lane's line was taken: the line of this number, from 1.
+/// Events are taken of each lane but the input.
 pub fn took_line(alloc: Global, lane: LaneName, number: u64) -> Result<Text, NoMemory>
     requires { IsTrue (is_taken lane) }
     ensures { IfOk result (λ line. line ≡ took_text lane number) }
@@ -330,7 +339,8 @@ fn update_value(alloc: Global, peer: &Text, bytes: &[u8]) -> Result<Value, NoMem
     bytes_value(alloc, message.as_str(), "peer", peer.as_str(), "update")
 }
 
-/// The line of a message (RFC 4271, section 4.3) that is to be sent to a BGP peer, its bytes in hexadecimal.
+/// The line of a message (RFC 4271, section 4.3) that is to be sent to a BGP peer, its bytes in
+/// hexadecimal.
 pub fn update_line(alloc: Global, peer: &Text, bytes: &[u8]) -> Result<Text, NoMemory>
     ensures { IfOk result (λ line. line ≡ update_text peer.now bytes.now) }
 {
@@ -382,8 +392,8 @@ fn trial_value(
     )
 }
 
-/// The line that ends a trial: how many services have an address, how many puts were wanted, how many
-/// services are stored, and how many steps there were.
+/// The line that ends a trial: how many services have an address, how many puts were wanted, how
+/// many services are stored, and how many steps there were.
 pub fn trial_line(
     alloc: Global,
     assigned: u64,

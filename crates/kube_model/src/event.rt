@@ -19,7 +19,8 @@ pub enum ListGroup {
 /// What happened.
 #[derive(Drop)]
 pub enum Event {
-    /// The object is there now, with this version, which is at least 1 where it was read from a line.
+    /// The object is there now, with this version, which is at least 1 where it was read from a
+    /// line.
     Changed { version: u64, object: Object },
     /// The object isn't there any more.
     Deleted { kind: Kind, key: Key },
@@ -27,7 +28,8 @@ pub enum Event {
     ListEnd { group: ListGroup },
     /// The watch has expired; the lists begin anew.
     Expired,
-    /// The speakers that are active, their names distinct and ascending where they were read from a line.
+    /// The speakers that are active, their names distinct and ascending where they were read from a
+    /// line.
     Members { names: TextList },
     /// An interface received these bytes.
     Frame { interface: Text, bytes: ByteList },
@@ -42,7 +44,7 @@ pub enum EventFault {
     NotJson,
     #[error("the line is no event")]
     NotEvent,
-    /// The field at this path is the first that is not as stated.
+    /// The field at this path is the first that is invalid.
     #[error("the field {path} is not as stated")]
     Field { path: Text },
     #[error("out of memory")]

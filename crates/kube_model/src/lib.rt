@@ -1,4 +1,17 @@
 //! The objects of a cluster, what happens to them, and what is written of them.
+//!
+//! The port of a service is a struct, `Port {protocol, port}`, where a pair would say less.
+//!
+//! The aggregation lengths of an advertisement are small types, `LengthV4` and `LengthV6`, so that
+//! a value out of range can't be made.
+//!
+//! `Reason`, `Cause` and `ConfigFault` stand with the types of the cluster in `kube_model`, below
+//! the core that finds them and the lines that tell them. The reading of a port, an allocation, an
+//! endpoint, a selector, a protocol, a policy and a length stands with its type, since a trait's
+//! impl must.
+//!
+//! Kinds of objects are defined by their public records; the groups in which they are read are tied
+//! to that by a proof.
 #![tactic(auto)]
 
 mod allocation_fields;

@@ -7,8 +7,8 @@ use kube_labels::Text;
 use mlb_base::{NoMemory, Sequence, TryCopy};
 use std::alloc::Global;
 
-/// The addresses that a service's status holds, with the pool that they are from and the terms under
-/// which they were given. An empty record has no addresses, no pool and no mark.
+/// The addresses that a service's status holds, with the pool that they are from and the terms
+/// under which they were given. An empty record has no addresses, no pool and no mark.
 #[derive(PartialEq)]
 pub struct Record {
     /// The addresses of `status.loadBalancer.ingress`, in its order.

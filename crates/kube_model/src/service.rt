@@ -146,8 +146,8 @@ fn copied_request(service: &Service) -> Result<((Text, Text), (Wanted, Record)),
 }
 
 impl Service {
-    /// Whether this controller gives it addresses: it is of type LoadBalancer, and of the class that the controller
-    /// handles; with no class configured, of none.
+    /// Whether this controller gives it addresses: it is of type LoadBalancer, and of the class
+    /// that the controller handles; with no class configured, of none.
     pub fn is_handled(&self, class: Option<&Text>) -> bool
         ensures { result ≡ is_handled (option_copied class.entry) self.now }
     {

@@ -1,6 +1,7 @@
 //! How a program ends.
 ghost use Rattle.std.specs.Prelude.{◌≡◌, ◌++◌, IfOk, codes, decimal, string_bytes};
-ghost use Rattle.kube_model.specs.Status.{lane_text, what_text, status_code, status_text, no_reply_text, is_done};
+ghost use Rattle.kube_model.specs.Status.{lane_text, what_text, status_code, status_text};
+ghost use Rattle.kube_model.specs.Status.{no_reply_text, is_done};
 
 use crate::key::Key;
 use crate::put::Put;
@@ -35,7 +36,7 @@ pub enum What {
 #[derive(Drop)]
 pub enum Status {
     Done,
-    /// The words of the command line aren't as stated.
+    /// The words of the command line are invalid.
     Usage,
     /// The lane's file can't be opened.
     OpenFault {
@@ -102,7 +103,7 @@ fn plain_text(alloc: Global, text: &str) -> Result<String, NoMemory>
     Ok(String::from_str(alloc, text)?)
 }
 
-/// The text with the word behind it.
+/// The text with the word after it.
 fn text_with(alloc: Global, text: &str, word: &str) -> Result<String, NoMemory>
     ensures { IfOk result (λ both. string_bytes both ≡ text.now ++ word.now) }
 {
@@ -110,21 +111,24 @@ fn text_with(alloc: Global, text: &str, word: &str) -> Result<String, NoMemory>
 }
 
 fn open_fault_text(alloc: Global, lane: LaneName) -> Result<String, NoMemory>
-    ensures { IfOk result (λ text. string_bytes text ≡ codes "cannot open the " ++ (lane_text lane ++ codes " lane")) }
+    ensures { IfOk result (λ text. string_bytes text
+        ≡ codes "cannot open the " ++ (lane_text lane ++ codes " lane")) }
 {
     let lane = lane.as_str();
     Ok(format!(in alloc; "cannot open the {lane} lane")?)
 }
 
 fn bad_line_text(alloc: Global, number: u64, lane: LaneName) -> Result<String, NoMemory>
-    ensures { IfOk result (λ text. string_bytes text ≡ codes "bad line " ++ (decimal number ++ (codes " on " ++ lane_text lane))) }
+    ensures { IfOk result (λ text. string_bytes text
+        ≡ codes "bad line " ++ (decimal number ++ (codes " on " ++ lane_text lane))) }
 {
     let lane = lane.as_str();
     Ok(format!(in alloc; "bad line {number} on {lane}")?)
 }
 
 fn bad_reply_text(alloc: Global, number: u64) -> Result<String, NoMemory>
-    ensures { IfOk result (λ text. string_bytes text ≡ codes "bad reply at line " ++ decimal number) }
+    ensures { IfOk result (λ text. string_bytes text
+        ≡ codes "bad reply at line " ++ decimal number) }
 {
     Ok(format!(in alloc; "bad reply at line {number}")?)
 }

@@ -64,7 +64,7 @@ at_same : {X : Type 0} (b : Bool) (here there was : X) → (b ≡ true → here 
 at_same true here there was same = same refl
 at_same false here there was same = refl
 
--- behind moves to announcers an address has its own, where it has it already if it is none of theirs
+-- after moves to announcers an address has its own, where it has it already if it is none of theirs
 pub after-right : (v : ViewValue) (a : AddressValue) (moves : List Move) (held : Option (List ℕ)) → AllByRecursion (λ (m : Move). m.to ≡ announcer_of v m.address) moves
     → (¬ (Contains (map (λ (m : Move). m.address) moves) a) → held ≡ announcer_of v a) → after_moves a held moves ≡ announcer_of v a
 after-right v a [] held right other = other (λ there. contains-none a there)

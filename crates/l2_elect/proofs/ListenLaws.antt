@@ -32,25 +32,27 @@ module _ (v : ViewValue) (node interface : List ℕ) (address : AddressValue) wh
         advertisement = found.advertisement;
         advertised = record {
           config = found.config;
-          in_force = found.in_force;
           there = found.there;
-          pool = found.pool;
-          pool_is = found.pool_is;
-          chosen = advertised.0;
-          selected = advertised.1;
+          meant = record {
+            in_force = found.in_force;
+            pool = found.pool;
+            pool_is = found.pool_is;
+            chosen = advertised.0;
+            selected = advertised.1;
+          };
         };
         named = (names-Decides found.advertisement.interfaces interface).0 parts.1;
       }
 
   so-listens : Listens v node interface address → listens_of v node interface address ≡ true
   so-listens l =
-      let by = l.advertised in
+      let by = l.advertised.meant in
       let adv = l.advertisement in
       let passes = and_from (advertises v node by.pool adv) (names_interface adv.interfaces interface)
       ((advertises-Decides v address node by.pool adv).1 (by.chosen, by.selected)) ((names-Decides adv.interfaces interface).1 l.named) in
       and_from (announces_of v node address) (is_listened v node interface address)
       (announcer-announces v address node l.announcer)
-      (passes-where (listens_by v node interface) address v.held.config by.config by.pool adv by.in_force by.pool_is by.there passes)
+      (passes-where (listens_by v node interface) address v.held.config l.advertised.config by.pool adv by.in_force by.pool_is l.advertised.there passes)
 
   -- what a call answers by the test
   pub listens-means : (answer : Bool) → answer ≡ listens_of v node interface address → (answer ≡ true) ↔ Listens v node interface address

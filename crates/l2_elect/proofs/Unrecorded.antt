@@ -11,9 +11,10 @@ use Rattle.speaker_view.specs.Change.{StaysAt}
 use Rattle.speaker_view.specs.Endpoints.{announced_from, can_announce, is_recorded_in}
 use Rattle.speaker_view.specs.Held.{objects_of}
 use Rattle.speaker_view.specs.ViewValue.{ViewValue}
+use Rattle.speaker_view.proofs.Serving.{announced_from-Decides}
 use Rattle.l2_elect.specs.Eligible.{EligibleNodesStay, IsEligible, is_advertised, is_eligible, passes_in}
 use Rattle.l2_elect.specs.Election.{announcer_of, best_from}
-use Rattle.l2_elect.proofs.Eligibility.{advertised-means, means-advertised, recorded-means, means-recorded}
+use Rattle.l2_elect.proofs.Eligibility.{advertised-means, means-advertised}
 
 -- where a test fails everywhere, so it does with another
 neither : {X : Type 0} (p q : X → Bool) (xs : List X) → list_any p xs ≡ false → list_any (λ x. p x && q x) xs ≡ false
@@ -48,14 +49,14 @@ module _ (v w : ViewValue) (nodes : List (List ℕ)) (a : AddressValue) (stays :
   still-eligible e = record {
     member = (stays.members node other).1 e.member;
     advertised = advertised-means w a node (advertised-stays ∙ means-advertised v a node e.advertised);
-    recorded = recorded-means w a node (stays.announced node other ∙ means-recorded v a node e.recorded);
+    recorded = (announced_from-Decides w a node).0 (stays.announced node other ∙ (announced_from-Decides v a node).1 e.recorded);
   }
 
   pub was-eligible : IsEligible w a node → IsEligible v a node
   was-eligible e = record {
     member = (stays.members node other).0 e.member;
     advertised = advertised-means v a node (sym advertised-stays ∙ means-advertised w a node e.advertised);
-    recorded = recorded-means v a node (sym (stays.announced node other) ∙ means-recorded w a node e.recorded);
+    recorded = (announced_from-Decides v a node).0 (sym (stays.announced node other) ∙ (announced_from-Decides w a node).1 e.recorded);
   }
 
 pub eligible_nodes_stay : EligibleNodesStay

@@ -1,45 +1,32 @@
 -- Which nodes are eligible for an address.
-use Rattle.std.specs.Prelude.{◌≡◌, ◌↔◌, ℕ, Bool, false, ◌&&◌, List, Option, Some, None, Contains}
+use Rattle.std.specs.Prelude.{◌↔◌, ℕ, Bool, false, ◌&&◌, List, Option, Some, None, Contains}
 use Rattle.std.specs.List.{list_any}
 use Rattle.ip_ranges.specs.Values.{AddressValue}
-use Rattle.kube_model.specs.declared.service.Service.{Service}
 use Rattle.pool_config.specs.declared.compiled.CompiledL2.{CompiledL2}
 use Rattle.pool_config.specs.declared.compiled.CompiledPool.{CompiledPool}
-use Rattle.pool_config.specs.Choice.{Chooses, Selects, chooses, selects}
+use Rattle.pool_config.specs.Choice.{chooses, selects}
 use Rattle.pool_config.specs.ConfigValue.{ConfigValue}
 use Rattle.pool_config.specs.PoolOf.{pool_with}
 use Rattle.speaker_view.specs.Change.{StaysAt}
-use Rattle.speaker_view.specs.Held.{objects_of}
-use Rattle.speaker_view.specs.Endpoints.{CanAnnounce, announced_from, node_labels}
+use Rattle.speaker_view.specs.Advertised.{IsAnnouncedFrom, IsMeant}
+use Rattle.speaker_view.specs.Endpoints.{announced_from, node_labels}
 use Rattle.speaker_view.specs.ViewValue.{ViewValue}
 
--- The L2Advertisement is one of the configuration in force; it chooses the pool that has the address (`spec.ipAddressPools`,
--- `spec.ipAddressPoolSelectors`), and selects the node (`spec.nodeSelectors`).
+-- The L2Advertisement is one of the configuration in force, and is meant for the pool that has the address, and for the node.
 pub record IsAdvertisedBy (v : ViewValue) (address : AddressValue) (node : List ℕ) (advertisement : CompiledL2) : Type 0 where
   pub config : ConfigValue
-  pub in_force : v.held.config ≡ Some config
   pub there : Contains config.l2 advertisement
-  pub pool : CompiledPool
-  pub pool_is : pool_with config.pools address ≡ Some pool
-  pub chosen : Chooses advertisement.pools advertisement.pool_selectors pool.name pool.labels
-  pub selected : Selects advertisement.node_selectors (node_labels v node)
+  pub meant : IsMeant v address node config advertisement.pools advertisement.pool_selectors advertisement.node_selectors
 
 -- some advertisement is such a one
 abbrev pub IsAdvertised : ViewValue → AddressValue → List ℕ → Type 0
 IsAdvertised v address node = (advertisement : CompiledL2) × IsAdvertisedBy v address node advertisement
 
--- Some held service is recorded with the address, and can be announced from the node.
-pub record IsRecorded (v : ViewValue) (address : AddressValue) (node : List ℕ) : Type 0 where
-  pub service : Service
-  pub held : Contains (objects_of v.held.services) service
-  pub recorded : Contains service.holding.addresses address
-  pub announces : CanAnnounce v service node
-
 -- The node is a member, the address is advertised from it, and a service that has the address can be announced from it.
 pub record IsEligible (v : ViewValue) (address : AddressValue) (node : List ℕ) : Type 0 where
   pub member : Contains v.members node
   pub advertised : IsAdvertised v address node
-  pub recorded : IsRecorded v address node
+  pub recorded : IsAnnouncedFrom v address node
 
 -- ---- the same as tests; of members alone, that of eligibility
 -- the advertisement chooses the pool and selects the node

@@ -71,7 +71,7 @@ pub record AreMoves (moves : List Move) (entries : List (AddressValue × List �
   pub right : AllByRecursion (λ m. m.to ≡ announcer_of v m.address) moves
   pub others : AreKeptBut (map (λ m. m.address) moves) entries v
 
--- what is held for an address behind these moves, where this was before
+-- what is held for an address after these moves, where this was before
 abbrev pub after_moves : AddressValue → Option (List ℕ) → List Move → Option (List ℕ)
 after_moves a held moves = fold (λ h m. if same_address a m.address then m.to else h) held moves
 

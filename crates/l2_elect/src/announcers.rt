@@ -10,7 +10,8 @@ ghost use Rattle.kube_labels.specs.Names.{name_cmp};
 ghost use Rattle.speaker_view.specs.Addresses.{address_cmp};
 ghost use Rattle.speaker_view.specs.Endpoints.{recorded_addresses};
 ghost use Rattle.speaker_view.specs.ViewValue.{ViewValue};
-ghost use Rattle.l2_elect.specs.Kept.{AreKeptFor, AreMembersAmong, AreMoves, IsKeptNow, WasKeptAt, WereKept};
+ghost use Rattle.l2_elect.specs.Kept.{AreKeptFor, AreMembersAmong, AreMoves, IsKeptNow, WasKeptAt};
+ghost use Rattle.l2_elect.specs.Kept.{WereKept};
 ghost use Rattle.l2_elect.specs.Kept.{after_moves, is_same_name, is_unrecorded, kept_announcer, moves_at, unheld_moves_at};
 
 use crate::election::{Candidate, best_since};
@@ -27,7 +28,8 @@ use std::collections::{BTreeMap, BTreeSet};
 use std::marker::Model;
 use std::mem;
 
-/// The name of the announcer of each address that has one, by ascending address: IPv4 before IPv6. So contracts see it, as a list.
+/// The name of the announcer of each address that has one, by ascending address: IPv4 before IPv6.
+/// So contracts see it, as a list.
 pub struct Announcers {
     alloc: Global,
     names: BTreeMap<Address, Winner>,
@@ -59,7 +61,7 @@ impl Announcers {
         }
     }
 
-    /// Holds those of the view, whatever was held. After want of memory none are held.
+    /// Holds those of the view, whatever was held. Where memory ran out none are held.
     pub fn rebuild(&mut self, view: &View) -> Result<(), NoMemory>
         ensures ok { OnOk result (AreKeptFor self.new view.now) }
         ensures err { OnErr result (self.new ≡ []) }
@@ -72,7 +74,8 @@ impl Announcers {
 
     /// The moves that make of the announcers of the view before those of the view. Where all may
     /// change, and at the addresses that the change lists, the election is held; at the others each
-    /// node that it names costs a hash at most, unless it was the announcer and isn't eligible any more.
+    /// node that it names costs a hash at most, unless it was the announcer and isn't eligible any
+    /// more.
     pub fn moves(&self, view: &View, change: &ViewChange) -> Result<MoveList, NoMemory>
         requires { WereKept change.now self.now view.now }
         ensures { IfOk result (λ moves. AreMoves moves self.now view.now) }
@@ -90,9 +93,10 @@ impl Announcers {
         self.node_moves(view, &change.nodes)
     }
 
-    /// Makes the moves. After want of memory none are held.
+    /// Makes the moves. Where memory ran out none are held.
     pub fn make(&mut self, moves: MoveList) -> Result<(), NoMemory>
-        ensures ok { OnOk result ((view : ViewValue) → AreMoves moves self.old view → AreKeptFor self.new view) }
+        ensures ok { OnOk result ((view : ViewValue) → AreMoves moves self.old view
+            → AreKeptFor self.new view) }
         ensures err { OnErr result (self.new ≡ []) }
     {
         match self.make_each(moves) {
@@ -136,7 +140,8 @@ impl Announcers {
         let _count = self.names.len();
     }
 
-    /// The election is held for each address that a service records, and for the others that are held.
+    /// The election is held for each address that a service records, and for the others that are
+    /// held.
     fn all_moves(&self, view: &View) -> Result<MoveList, NoMemory>
         ensures { IfOk result (λ moves. AreMoves moves self.now view.now) }
     {
@@ -159,7 +164,8 @@ impl Announcers {
 
     /// The moves where all stays but at these nodes.
     fn node_moves(&self, view: &View, nodes: &TextList) -> Result<MoveList, NoMemory>
-        requires { (address : AddressValue) → WasKeptAt nodes.now address (kept_announcer self.now address) view.now }
+        requires { (address : AddressValue)
+            → WasKeptAt nodes.now address (kept_announcer self.now address) view.now }
         ensures { IfOk result (λ moves. AreMoves moves self.now view.now) }
     {
         let names = name_set(self.alloc, nodes.as_slice())?;
@@ -179,9 +185,11 @@ impl Announcers {
         names: &BTreeSet<Text>,
         members: &TextList,
     ) -> Result<(), NoMemory>
-        requires kept { (address : AddressValue) → WasKeptAt names.now.keys address (kept_announcer self.now address) view.now }
+        requires kept { (address : AddressValue)
+            → WasKeptAt names.now.keys address (kept_announcer self.now address) view.now }
         requires members { AreMembersAmong names.now.keys view.now members.now }
-        ensures { OnOk result (moves.new ≡ moves.old ++ flat_map (moves_at view.now self.now) (keys_of self.now)) }
+        ensures { OnOk result (moves.new
+            ≡ moves.old ++ flat_map (moves_at view.now self.now) (keys_of self.now)) }
     {
         for address in self.names.keys() {
             self.push_move(moves, view, address, names, members)?;
@@ -198,9 +206,11 @@ impl Announcers {
         names: &BTreeSet<Text>,
         members: &TextList,
     ) -> Result<(), NoMemory>
-        requires kept { (address : AddressValue) → WasKeptAt names.now.keys address (kept_announcer self.now address) view.now }
+        requires kept { (address : AddressValue)
+            → WasKeptAt names.now.keys address (kept_announcer self.now address) view.now }
         requires members { AreMembersAmong names.now.keys view.now members.now }
-        ensures { OnOk result (moves.new ≡ moves.old ++ flat_map (unheld_moves_at view.now self.now) addresses.entry) }
+        ensures { OnOk result (moves.new
+            ≡ moves.old ++ flat_map (unheld_moves_at view.now self.now) addresses.entry) }
     {
         for address in addresses {
             if self.winner(address).is_none() {
@@ -219,7 +229,8 @@ impl Announcers {
         names: &BTreeSet<Text>,
         members: &TextList,
     ) -> Result<(), NoMemory>
-        requires kept { WasKeptAt names.now.keys address.now (kept_announcer self.now address.now) view.now }
+        requires kept { WasKeptAt names.now.keys address.now
+            (kept_announcer self.now address.now) view.now }
         requires members { AreMembersAmong names.now.keys view.now members.now }
         ensures { OnOk result (moves.new ≡ moves.old ++ moves_at view.now self.now address.now) }
     {
@@ -232,7 +243,8 @@ impl Announcers {
     }
 
     fn make_each(&mut self, moves: MoveList) -> Result<(), NoMemory>
-        ensures { OnOk result ((a : AddressValue) → kept_announcer self.new a ≡ after_moves a (kept_announcer self.old a) moves) }
+        ensures { OnOk result ((a : AddressValue)
+            → kept_announcer self.new a ≡ after_moves a (kept_announcer self.old a) moves) }
     {
         for Move { address, to } in moves.into_vec() {
             self.hold(address, to)?;
@@ -268,7 +280,8 @@ impl Announcers {
 
 /// Whether they have the same name, or there is neither.
 fn is_same(kept: Option<&Winner>, best: Option<Candidate<'_>>) -> bool
-    ensures { result ≡ is_same_name (option_copied kept.entry) (option_map (λ c. c.node.now) best.entry) }
+    ensures { result ≡ is_same_name (option_copied kept.entry)
+        (option_map (λ c. c.node.now) best.entry) }
 {
     match kept {
         None => best.is_none(),
@@ -281,7 +294,8 @@ fn is_same(kept: Option<&Winner>, best: Option<Candidate<'_>>) -> bool
 
 /// The members that are among the names.
 fn members_among(alloc: Global, view: &View, names: &BTreeSet<Text>) -> Result<TextList, NoMemory>
-    ensures { IfOk result (λ members. members ≡ filter (contains name_cmp names.now) view.now.members) }
+    ensures { IfOk result (λ members. members
+        ≡ filter (contains name_cmp names.now) view.now.members) }
 {
     let mut members = TextList::new(alloc);
     for member in view.members().as_slice() {

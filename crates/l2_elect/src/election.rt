@@ -6,7 +6,8 @@ ghost use Rattle.std.specs.Prelude.{filter, not, ◌&&◌, ◌||◌};
 ghost use Rattle.std.specs.BTreeSet.{contains};
 ghost use Rattle.kube_labels.specs.Names.{has_text, name_cmp};
 ghost use Rattle.l2_elect.specs.Eligible.{IsEligible, is_eligible_by};
-ghost use Rattle.l2_elect.specs.Election.{announcer_of, announces_of, best_from, digest_of, elected, is_better, is_named, IsAnnouncer};
+ghost use Rattle.l2_elect.specs.Election.{announcer_of, announces_of, best_from, digest_of};
+ghost use Rattle.l2_elect.specs.Election.{elected, is_better, is_named, IsAnnouncer};
 ghost use Rattle.l2_elect.specs.Kept.{AreMembersAmong, WasKeptAt};
 
 use crate::eligible::is_eligible;
@@ -27,11 +28,12 @@ pub(crate) struct Candidate<'a> {
     pub(crate) digest: [u8; 32],
 }
 
-/// The eligible node with the least SHA-256 of its name, `#` and the printed address, compared as bytes; ties go by name. `None`
-/// exactly where no node is eligible. It takes no memory.
+/// The eligible node with the least SHA-256 of its name, `#` and the printed address, compared as
+/// bytes; ties go by name. `None` exactly where no node is eligible. It takes no memory.
 pub fn announcer<'a>(view: &'a View, address: &Address) -> Option<&'a Text>
     ensures value { option_copied result ≡ announcer_of view.now address.now }
-    ensures meaning { (node : List ℕ) → (option_copied result ≡ Some node) ↔ IsAnnouncer view.now address.now node }
+    ensures meaning { (node : List ℕ)
+        → (option_copied result ≡ Some node) ↔ IsAnnouncer view.now address.now node }
     ensures none { IfNone result ((node : List ℕ) → ¬ IsEligible view.now address.now node) }
 {
     first(view, address)
@@ -51,7 +53,8 @@ pub(crate) fn first<'a>(view: &'a View, address: &Address) -> Option<&'a Text>
 /// no usable endpoint, costs a look-up.
 pub(crate) fn best<'a>(view: &'a View, address: &Address) -> Option<Candidate<'a>>
     ensures node { option_map (λ c. c.node.now) result ≡ announcer_of view.now address.now }
-    ensures digest { ForSome result (λ c. c.digest ≡ digest_of (canonical_text address.now) c.node.now) }
+    ensures digest { ForSome result
+        (λ c. c.digest ≡ digest_of (canonical_text address.now) c.node.now) }
 {
     if !view.is_served(address) {
         return None;
@@ -98,7 +101,8 @@ fn best_among<'a>(
     nodes: &'a [Text],
 ) -> Option<Candidate<'a>>
     requires { ForSome known (λ c. c.digest ≡ digest_of text.now c.node.now) }
-    ensures node { option_map (λ c. c.node.now) result ≡ best_from text.now (option_map (λ c. c.node.now) known.entry)
+    ensures node { option_map (λ c. c.node.now) result
+        ≡ best_from text.now (option_map (λ c. c.node.now) known.entry)
         (filter (is_eligible_by view.now address.now pool.now l2.now) nodes.now) }
     ensures digest { ForSome result (λ c. c.digest ≡ digest_of text.now c.node.now) }
 {
@@ -116,8 +120,8 @@ fn best_among<'a>(
 }
 
 /// The announcer of the address, where the one that is kept, if any, was it before, and all stays
-/// since but at the nodes of these names, of which these are members. Each of them costs a hash, unless
-/// the one that is kept isn't eligible any more.
+/// since but at the nodes of these names, of which these are members. Each of them costs a hash,
+/// unless the one that is kept isn't eligible any more.
 #[tactic(auto, using(crate::proofs::ByPool::no_config, crate::proofs::ByPool::no_pool))]
 pub(crate) fn best_since<'a>(
     view: &'a View,
@@ -129,7 +133,8 @@ pub(crate) fn best_since<'a>(
     requires kept { WasKeptAt names.now.keys address.now (option_copied kept) view.now }
     requires members { AreMembersAmong names.now.keys view.now members.now }
     ensures node { option_map (λ c. c.node.now) result ≡ announcer_of view.now address.now }
-    ensures digest { ForSome result (λ c. c.digest ≡ digest_of (canonical_text address.now) c.node.now) }
+    ensures digest { ForSome result
+        (λ c. c.digest ≡ digest_of (canonical_text address.now) c.node.now) }
 {
     let Some(config) = view.config() else {
         return None;
@@ -169,18 +174,21 @@ fn stands(
     names: &BTreeSet<Text>,
 ) -> bool
     ensures { result ≡ (not (contains name_cmp names.now node.now)
-        || (has_text view.now.members node.now && is_eligible_by view.now address.now pool.now l2.now node.now)) }
+        || (has_text view.now.members node.now
+        && is_eligible_by view.now address.now pool.now l2.now node.now)) }
 {
     !names.contains(node)
         || (has_text(view.members().as_slice(), node.as_str())
             && is_eligible(view, node, address, pool, l2))
 }
 
-/// Whether the candidate comes before the one that is best so far, if any: by digests, ties by name.
+/// Whether the candidate comes before the one that is best so far, if any: by digests, ties by
+/// name.
 fn is_better(best: Option<Candidate<'_>>, candidate: Candidate<'_>) -> bool
     ensures { (text : List ℕ) → ForSome best.entry (λ c. c.digest ≡ digest_of text c.node.now)
         → candidate.entry.digest ≡ digest_of text candidate.entry.node.now
-        → result ≡ is_better text (option_map (λ c. c.node.now) best.entry) candidate.entry.node.now }
+        → result ≡ is_better text (option_map (λ c. c.node.now) best.entry)
+        candidate.entry.node.now }
 {
     match best {
         None => true,

@@ -27,8 +27,8 @@ fn is_advertised(view: &View, node: &Text, pool: &CompiledPool, l2: &[CompiledL2
     l2.iter().any(|advertisement| advertises(view, node, pool, advertisement))
 }
 
-/// Whether the node, where it is a member, is eligible for the address, which is of the pool, by the advertisements. Of the services it
-/// looks at those that record the address alone.
+/// Whether the node, where it is a member, is eligible for the address, which is of the pool, by
+/// the advertisements. Of the services it looks at those that record the address alone.
 pub(crate) fn is_eligible(
     view: &View,
     node: &Text,

@@ -13,12 +13,14 @@ pub fn only_an_eligible_node_announces()
     ensures { OnlyAnEligibleNodeAnnounces }
 {}
 
-/// Where an event leaves all that decides who may announce an address but at some nodes, the same others are eligible for it.
+/// Where an event leaves all that decides who may announce an address but at some nodes, the same
+/// others are eligible for it.
 pub fn eligible_nodes_stay()
     ensures { EligibleNodesStay }
 {}
 
-/// Where a member leaves, each address that another announced stays where it was, and where one joins, each that it doesn't announce itself.
+/// Where a member leaves, each address that another announced stays where it was, and where one
+/// joins, each that it doesn't announce itself.
 pub fn election_moves_least()
     ensures { ElectionMovesLeast }
 {}

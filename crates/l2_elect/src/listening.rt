@@ -5,7 +5,8 @@ ghost use Rattle.std.specs.List.{list_any};
 ghost use Rattle.kube_labels.specs.Names.{has_text};
 ghost use Rattle.l2_elect.specs.Election.{is_named};
 ghost use Rattle.l2_elect.specs.Kept.{AreKnown};
-ghost use Rattle.l2_elect.specs.Listening.{names_interface, listens_by, is_listened, listens_of, Listens};
+ghost use Rattle.l2_elect.specs.Listening.{names_interface, listens_by, is_listened, listens_of};
+ghost use Rattle.l2_elect.specs.Listening.{Listens};
 
 use crate::announcers::Announcers;
 use crate::election::first;
@@ -15,8 +16,8 @@ use kube_labels::{Text, TextList};
 use pool_config::{CompiledL2, CompiledPool};
 use speaker_view::View;
 
-/// Whether the node announces the address on the interface: some advertisement that chooses the address's pool and selects the
-/// node has no interfaces or names this one. It takes no memory.
+/// Whether the node announces the address on the interface: some advertisement that chooses the
+/// address's pool and selects the node has no interfaces or names this one. It takes no memory.
 pub fn listens(view: &View, node: &str, interface: &str, address: &Address) -> bool
     ensures value { result ≡ listens_of view.now node.now interface.now address.now }
     ensures meaning { IsTrue result ↔ Listens view.now node.now interface.now address.now }
@@ -24,7 +25,8 @@ pub fn listens(view: &View, node: &str, interface: &str, address: &Address) -> b
     listens_as(view, node, first(view, address), interface, address)
 }
 
-/// The same, by the announcers of the view where they are known: then no election is held. It takes no memory.
+/// The same, by the announcers of the view where they are known: then no election is held. It takes
+/// no memory.
 pub fn listens_known(
     view: &View,
     announcers: Option<&Announcers>,
@@ -50,7 +52,8 @@ fn listens_as(
     interface: &str,
     address: &Address,
 ) -> bool
-    ensures { result ≡ (is_named node.now (option_copied announcer.entry) && is_listened view.now node.now interface.now address.now) }
+    ensures { result ≡ (is_named node.now (option_copied announcer.entry)
+        && is_listened view.now node.now interface.now address.now) }
 {
     match announcer {
         Some(announcer) => {

@@ -32,7 +32,8 @@ impl Move {
 
     /// To this candidate, if there is one.
     pub(crate) fn to(address: &Address, candidate: Option<Candidate<'_>>) -> Result<Move, NoMemory>
-        requires { ForSome candidate (λ c. c.digest ≡ digest_of (canonical_text address.now) c.node.now) }
+        requires { ForSome candidate (λ c. c.digest
+            ≡ digest_of (canonical_text address.now) c.node.now) }
         ensures { IfOk result (λ m. m ≡ record { address = address.now; to = option_map (λ c. c.node.now) candidate.entry }) }
     {
         let to = match candidate {
@@ -46,7 +47,8 @@ impl Move {
     }
 }
 
-/// The moves to the announcers of these addresses by the view: for each address the election is held.
+/// The moves to the announcers of these addresses by the view: for each address the election is
+/// held.
 pub fn elected_moves(
     alloc: Global,
     view: &View,

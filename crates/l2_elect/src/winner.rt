@@ -9,7 +9,8 @@ use kube_labels::Text;
 use mlb_base::{NoMemory, TryCopy};
 use std::marker::Model;
 
-/// The name of the node that announces an address, with the digest of both, so that another node costs one hash. Contracts see the name.
+/// The name of the node that announces an address, with the digest of both, so that another node
+/// costs one hash. Contracts see the name.
 pub(crate) struct Winner {
     node: Text,
     // what the digest is of, beside the name

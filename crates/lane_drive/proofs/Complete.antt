@@ -168,7 +168,7 @@ module _ {S E : Type 0} (rules : LaneRules S E) where
       (subst (λ (x : S). IsTaken rules item own' x next' entries') none.1 taken') quiet' split split' whole in
       same_items items on.0 on.1 behind ys behind' after next next' u t rest rest' on.2 others others' quiet on.3
 
-  -- Behind some items more replies are heard, until none is awaited, and then the others are taken.
+  -- After some items more replies are heard, until none is awaited, and then the others are taken.
   pub record GoesOn (rest : List Item) (u t : S) (lines after : List Line) : Type 0 where
     pub more : List Line
     pub entries : List E
@@ -357,7 +357,7 @@ module _ {S E U V : Type 0} (TurnsFirst : U → U → Event → Event → Type 0
   module _ (first first' second second' : SourceState) (before after : Outside) (fresh : before.reading ≡ unread)
       (ready : AreSent belongs rules start sending first.left second.left before.replies.left)
       (unrisen : Rose before.replies.faults after.replies.faults → ⊥) (unrisen' : Rose before.faults after.faults → ⊥) where
-    -- the lines behind those that were heard
+    -- the lines after those that were heard
     module _ (items : List Item) (state : S) (told : List (Told E)) (mid : Outside) (drove : Drives rules items start state told before mid) where
       comes_told : (bytes : List ℕ) → before.replies.left ≡ Some bytes → Follows (Some (input_of bytes)) drove.replies (to_come mid.reading mid.replies.left)
       comes_told bytes is =
@@ -385,14 +385,14 @@ module _ {S E U V : Type 0} (TurnsFirst : U → U → Event → Event → Type 0
       unrisen_mid' : Rose mid.faults after.faults → ⊥
       unrisen_mid' rose = unrisen' (omega (arith, rose, drove.writes))
 
-      -- behind the items the others can be taken
+      -- after the items the others can be taken
       then_taken : (others : List Item) (heard after : List Line) (t : S) (told' : List (Told E)) → AreTaken rules (items ++ others) heard start t told'
           → rules.waits t ≡ false → ready.lines ≡ heard ++ after → (lines : List Line) → ready.lines ≡ drove.replies ++ lines
           → GoesOn rules others state t lines after
       then_taken others heard after t told' can quiet split lines are =
           goes_on rules items others drove.replies lines heard after start state t told told' drove.taken can quiet (sym split ∙ are)
 
-      -- and behind them their replies are heard
+      -- and after them their replies are heard
       then_heard : (takes : TakesFirst sending rules start first.left second.left ready.lines items) (lines : List Line)
           → ready.lines ≡ drove.replies ++ lines → GoesOn rules [] state takes.state lines takes.rest
       then_heard takes lines are =

@@ -1,4 +1,4 @@
--- What a machine stands behind at last, which hears no replies.
+-- What a machine stands after at last, which hears no replies.
 use Rattle.std.proofs.Common.{◌≡◌, ◌⊎◌, inl, inr, ℕ, Bool, false, List, [], ◌∷◌, ◌++◌, take, Option, Some, None, refl, subst, ◌∙◌}
 use Rattle.std.specs.Option.{option_to_list}
 use Rattle.kube_model.specs.declared.status.Status.{Status}
@@ -63,9 +63,9 @@ module _ {S E : Type 0} {sending : Sending} (laws : SendsLawfully sending) (rule
       }
 
   -- both sources are files that were just opened
-  pub left_with : {own own' : List ℕ} {bytes bytes' told : Option (List ℕ)} {safe known : Bool}
-      {name left : Option (List ℕ)} {faults : ℕ} {is_safe : Bool} {name' left' : Option (List ℕ)} {faults' : ℕ} {is_safe' : Bool}
-      → IsOpened name left faults is_safe own bytes safe → IsOpened name' left' faults' is_safe' own' told known → told ≡ bytes'
+  pub left_with : {own own' : List ℕ} {bytes bytes' told : Option (List ℕ)} {unfailing known : Bool}
+      {name left : Option (List ℕ)} {faults : ℕ} {is_unfailing : Bool} {name' left' : Option (List ℕ)} {faults' : ℕ} {is_unfailing' : Bool}
+      → IsOpened name left faults is_unfailing own bytes unfailing → IsOpened name' left' faults' is_unfailing' own' told known → told ≡ bytes'
       → {reader : Reading} → reader ≡ unread → (replies before after : Option (List ℕ))
       → LeavesMachine sending rules start Stands left left' (to_come reader replies) before after
       → LeavesMachine sending rules start Stands bytes bytes' (to_come unread replies) before after

@@ -29,7 +29,7 @@ use Rattle.lane_drive.proofs.Sent.{SendsLawfully}
 use Rattle.lane_drive.proofs.Endings as endings
 use Rattle.lane_drive.proofs.Ways.{ends_undriven}
 
--- a file isn't opened: but for OpenFault it is for want of memory
+-- a file isn't opened: but for OpenFault it is where memory ran out
 pub memory_wants : (own : LaneName) (end : OpenEnd) (status : Status) → status ≡ status_of_open own end → ((lane : LaneName) → status ≢ statuses.OpenFault lane)
     → status ≡ statuses.NoMemory
 memory_wants own Failed status is other = absurd (other own is)
@@ -41,7 +41,7 @@ pub unopened_alone : (own : LaneName) (end : OpenEnd) (status : Status) → stat
 unopened_alone own Failed status is = ((λ it. absurd (cc)), (λ it. absurd (cc)), λ lane it. absurd (cc))
 unopened_alone own NoMemory status is = ((λ it. absurd (cc)), (λ it. absurd (cc)), λ lane it. absurd (cc))
 
--- want of memory is no fault
+-- running out of memory is no fault
 pub no_fault : (lane : LaneName) → (statuses.NoMemory ≢ statuses.OpenFault lane) × (statuses.NoMemory ≢ statuses.ReadFault lane)
 no_fault lane = ((λ it. absurd (cc)), λ it. absurd (cc))
 
@@ -110,18 +110,18 @@ module _ (name : Lane → LaneName) (file file' : List ℕ) (status : Status) (o
   second_failed T NoMemory is failed same = ((λ lane it. absurd (cc)), (λ other. failed))
 
 -- Both inputs were just opened, and the reader has read nothing: what is so of them is so of the bytes of their files.
-pub of_files : (own own' : List ℕ) (bytes bytes' told : Option (List ℕ)) (safe safe' known : Bool) (name left : Option (List ℕ))
-    (faults : ℕ) (is_safe : Bool) (name' left' : Option (List ℕ)) (faults' : ℕ) (is_safe' : Bool) → IsOpened name left faults is_safe own bytes safe
-    → IsOpened name' left' faults' is_safe' own' told known → told ≡ bytes' → known ≡ safe'
-    → (reader : Reading) → reader ≡ unread → (So : SourceState → SourceState → Reading → Type 0) → So (lane_state left name faults is_safe)
-    (lane_state left' name' faults' is_safe') reader → So (lane_state bytes (Some own) 0 safe) (lane_state bytes' (Some own') 0 safe') unread
-of_files own own' bytes bytes' told safe safe' known name left faults is_safe name' left' faults' is_safe' opened opened' same same' reader fresh So so =
-    let one : lane_state left name faults is_safe ≡ lane_state bytes (Some own) 0 safe = rw (opened.named, opened.whole, opened.none, opened.safety) refl in
-    let two : lane_state left' name' faults' is_safe' ≡ lane_state bytes' (Some own') 0 safe' =
+pub of_files : (own own' : List ℕ) (bytes bytes' told : Option (List ℕ)) (unfailing unfailing' known : Bool) (name left : Option (List ℕ))
+    (faults : ℕ) (is_unfailing : Bool) (name' left' : Option (List ℕ)) (faults' : ℕ) (is_unfailing' : Bool) → IsOpened name left faults is_unfailing own bytes unfailing
+    → IsOpened name' left' faults' is_unfailing' own' told known → told ≡ bytes' → known ≡ unfailing'
+    → (reader : Reading) → reader ≡ unread → (So : SourceState → SourceState → Reading → Type 0) → So (lane_state left name faults is_unfailing)
+    (lane_state left' name' faults' is_unfailing') reader → So (lane_state bytes (Some own) 0 unfailing) (lane_state bytes' (Some own') 0 unfailing') unread
+of_files own own' bytes bytes' told unfailing unfailing' known name left faults is_unfailing name' left' faults' is_unfailing' opened opened' same same' reader fresh So so =
+    let one : lane_state left name faults is_unfailing ≡ lane_state bytes (Some own) 0 unfailing = rw (opened.named, opened.whole, opened.none, opened.safety) refl in
+    let two : lane_state left' name' faults' is_unfailing' ≡ lane_state bytes' (Some own') 0 unfailing' =
     rw (opened'.named, opened'.whole, opened'.none, opened'.safety, same, same') refl in
-    let x = subst (λ (v : SourceState). So v (lane_state left' name' faults' is_safe') reader) one so in
-    let y = subst (λ (v : SourceState). So (lane_state bytes (Some own) 0 safe) v reader) two x in
-    subst (λ (r : Reading). So (lane_state bytes (Some own) 0 safe) (lane_state bytes' (Some own') 0 safe') r) fresh y
+    let x = subst (λ (v : SourceState). So v (lane_state left' name' faults' is_unfailing') reader) one so in
+    let y = subst (λ (v : SourceState). So (lane_state bytes (Some own) 0 unfailing) v reader) two x in
+    subst (λ (r : Reading). So (lane_state bytes (Some own) 0 unfailing) (lane_state bytes' (Some own') 0 unfailing') r) fresh y
 
 module _ {S E : Type 0} {sending : Sending} (laws : SendsLawfully sending) (rules : LaneRules S E) (start : S) (quiet : rules.waits start ≡ false) where
   -- nothing was read or written
@@ -140,32 +140,32 @@ module _ {S E : Type 0} {sending : Sending} (laws : SendsLawfully sending) (rule
   }
 
   -- both inputs were just opened, and the reader has read nothing
-  module _ {own own' : List ℕ} {bytes bytes' told : Option (List ℕ)} {safe safe' known : Bool} {name left : Option (List ℕ)}
-      {faults : ℕ} {is_safe : Bool} {name' left' : Option (List ℕ)} {faults' : ℕ} {is_safe' : Bool} (opened : IsOpened name left faults is_safe own bytes safe)
-      (opened' : IsOpened name' left' faults' is_safe' own' told known) (same : told ≡ bytes') (same' : known ≡ safe')
+  module _ {own own' : List ℕ} {bytes bytes' told : Option (List ℕ)} {unfailing unfailing' known : Bool} {name left : Option (List ℕ)}
+      {faults : ℕ} {is_unfailing : Bool} {name' left' : Option (List ℕ)} {faults' : ℕ} {is_unfailing' : Bool} (opened : IsOpened name left faults is_unfailing own bytes unfailing)
+      (opened' : IsOpened name' left' faults' is_unfailing' own' told known) (same : told ≡ bytes') (same' : known ≡ unfailing')
       {reader : Reading} (fresh : reader ≡ unread) {first second replies : SourceState} {before : Option (List ℕ)} {writes : ℕ} {after : Outside}
       {status : Status}
-      (run : EndsBy sending rules start (lane_state left name faults is_safe) first (lane_state left' name' faults' is_safe') second
+      (run : EndsBy sending rules start (lane_state left name faults is_unfailing) first (lane_state left' name' faults' is_unfailing') second
       (outside reader replies before writes) after status) where
-    over_files : EndsBy sending rules start (lane_state bytes (Some own) 0 safe) first (lane_state bytes' (Some own') 0 safe') second
+    over_files : EndsBy sending rules start (lane_state bytes (Some own) 0 unfailing) first (lane_state bytes' (Some own') 0 unfailing') second
         (outside unread replies before writes) after status
     over_files =
-        of_files own own' bytes bytes' told safe safe' known name left faults is_safe name' left' faults' is_safe' opened opened' same same' reader fresh
+        of_files own own' bytes bytes' told unfailing unfailing' known name left faults is_unfailing name' left' faults' is_unfailing' opened opened' same same' reader fresh
         (λ v v' r. EndsBy sending rules start v first v' second (outside r replies before writes) after status) run
 
     pub ends_with : (files files' : FilesState)
         → files'.failed_reads ≡ with_closed (with_closed files.failed_reads (Some own) first.faults) (Some own') second.faults
-        → EndsWith sending rules start own own' files files' (lane_state bytes (Some own) 0 safe) (lane_state bytes' (Some own') 0 safe') replies after.replies
+        → EndsWith sending rules start own own' files files' (lane_state bytes (Some own) 0 unfailing) (lane_state bytes' (Some own') 0 unfailing') replies after.replies
         before after.written writes after.faults status
     ends_with files files' kept = record { first' = first; second' = second; reading = after.reading; ends = over_files; kept = λ known. kept }
 
     pub only : WritesBegun sending rules start bytes bytes' (to_come unread replies.left) before after.written
-    only = endings.writes_upto laws rules start (lane_state bytes (Some own) 0 safe) first (lane_state bytes' (Some own') 0 safe') second
+    only = endings.writes_upto laws rules start (lane_state bytes (Some own) 0 unfailing) first (lane_state bytes' (Some own') 0 unfailing') second
         (outside unread replies before writes) after status quiet over_files
 
     -- that a reading failed isn't kept
     pub ends_unkept : (files files' : FilesState)
-        → EndsWith sending rules start own own' files files' (lane_state bytes (Some own) 0 safe) (lane_state bytes' (Some own') 0 safe') replies after.replies
+        → EndsWith sending rules start own own' files files' (lane_state bytes (Some own) 0 unfailing) (lane_state bytes' (Some own') 0 unfailing') replies after.replies
         before after.written writes after.faults statuses.NoMemory
     ends_unkept files files' = record {
       first' = first;
@@ -180,15 +180,15 @@ module _ {S E : Type 0} {sending : Sending} (laws : SendsLawfully sending) (rule
         → (status' ≡ statuses.BadReply line.number line.bytes) ⊎ IsHeldLimit status')
         (puts : (s : S) → rules.waits s ≡ true → (put : Put) × (rules.unanswered s ≡ statuses.NoReply put)) where
       pub done : status ≡ statuses.Done → TakesAllOf sending rules start bytes bytes' replies.left after.replies.left before after.written
-      done = endings.done_whole laws rules start (lane_state bytes (Some own) 0 safe) first (lane_state bytes' (Some own') 0 safe') second
+      done = endings.done_whole laws rules start (lane_state bytes (Some own) 0 unfailing) first (lane_state bytes' (Some own') 0 unfailing') second
           (outside unread replies before writes) after items_stop replies_stop puts status refl over_files
 
       pub write_fault : status ≡ statuses.WriteFault → Rose writes after.faults
-      write_fault = endings.write_fault laws rules start (lane_state bytes (Some own) 0 safe) first (lane_state bytes' (Some own') 0 safe') second
+      write_fault = endings.write_fault laws rules start (lane_state bytes (Some own) 0 unfailing) first (lane_state bytes' (Some own') 0 unfailing') second
           (outside unread replies before writes) after items_stop replies_stop puts status over_files
 
       pub no_open_fault : (lane : LaneName) → status ≢ statuses.OpenFault lane
-      no_open_fault = endings.no_open_fault laws rules start (lane_state bytes (Some own) 0 safe) first (lane_state bytes' (Some own') 0 safe') second
+      no_open_fault = endings.no_open_fault laws rules start (lane_state bytes (Some own) 0 unfailing) first (lane_state bytes' (Some own') 0 unfailing') second
           (outside unread replies before writes) after items_stop replies_stop puts status over_files
 
       by_lane : (names names' : List (List ℕ)) → (first.faults ≢ 0 → Rose (times own names) (times own names'))
@@ -207,5 +207,5 @@ module _ {S E : Type 0} {sending : Sending} (laws : SendsLawfully sending) (rule
           ⊎ (RoseFor lane (rules.name First) own names names' ⊎ RoseFor lane (rules.name Second) own' names names')
       read_fault names names' rise rise' lane is =
           by_lane names names' rise rise' lane
-          (endings.read_fault laws rules start (lane_state bytes (Some own) 0 safe) first (lane_state bytes' (Some own') 0 safe') second
+          (endings.read_fault laws rules start (lane_state bytes (Some own) 0 unfailing) first (lane_state bytes' (Some own') 0 unfailing') second
           (outside unread replies before writes) after items_stop replies_stop puts status over_files lane is)

@@ -1,4 +1,4 @@
--- Items that are taken, with the replies behind each.
+-- Items that are taken, with the replies after each.
 use Rattle.std.proofs.Common.{◌≡◌, inl, inr, ℕ, ◌≤◌, true, false, List, [], ◌∷◌, ◌++◌, Option, refl, sym, ap, ◌∙◌, subst, arith, append_assoc}
 use Rattle.std.specs.List.{flat_map}
 use Rattle.std.proofs.lemmas.Grind.{flat_map-append}
@@ -21,7 +21,7 @@ use Rattle.mlb_edge.specs.declared.lines.Line.{Line}
 use Rattle.mlb_edge.specs.InputLines.{Follows-refl, Follows-append, to_come}
 use Rattle.mlb_edge.specs.Written.{Grows, Grows-none, Grows-append}
 
--- nothing is read where no line is, and none behind
+-- nothing is read where no line is, and none after
 unread_both : (a b c : Outside) (xs ys : List Line) → (xs ≡ [] → (b.reading ≡ a.reading) × (b.replies ≡ a.replies))
     → (ys ≡ [] → (c.reading ≡ b.reading) × (c.replies ≡ b.replies))
     → xs ++ ys ≡ [] → (c.reading ≡ a.reading) × (c.replies ≡ a.replies)
@@ -98,7 +98,7 @@ module _ {S E : Type 0} (rules : LaneRules S E) where
         behind = tail.behind;
       }
 
-  -- One reply more behind the last of these items.
+  -- One reply more after the last of these items.
   pub hears_behind : (item : Item) (items : List Item) (lines : List Line) (s t u : S) (told : List (Told E)) (line : Line) (more : List E)
       → AreTaken rules (item ∷ items) lines s t told → rules.waits t ≡ true → rules.hear t line ≡ Goes u more
       → (told' : List (Told E)) × AreTaken rules (item ∷ items) (lines ++ line ∷ []) s u told'
@@ -231,7 +231,7 @@ module _ {S E : Type 0} (rules : LaneRules S E) where
     pub drives_item : (u : S) (after : Outside) → Hears rules t u mid' after → DrivesItem rules s u item before after
     drives_item u after hears quiet = (one_told item (took.entries ++ hears.0.entries), driven_one u after quiet hears.0, hears.1)
 
-    -- a reply behind it is awaited
+    -- a reply after it is awaited
     pub awaits_behind : (now : Outside) → AwaitsMore rules t mid' now → AsksFor rules s item before now
     awaits_behind now more quiet = record {
       state = more.state;
@@ -287,7 +287,7 @@ module _ {S E : Type 0} (rules : LaneRules S E) where
       let y = drives_all items next t mid after x.2 others in
       (x.0 ++ y.0, drives_more (item ∷ []) items s next t x.0 y.0 before mid after x.1 y.1, y.2)
 
-  -- Where a reply is asked for while the reconciler takes an item, it is awaited behind all that were taken.
+  -- Where a reply is asked for while the reconciler takes an item, it is awaited after all that were taken.
   pub awaits_in : (s : S) (before now : Outside) → rules.waits s ≡ false → AsksIn (DrivesItem rules) (AsksFor rules) s before now
       → (items : List Item) × AwaitsReply rules items s before now
   awaits_in s before now quiet asks =

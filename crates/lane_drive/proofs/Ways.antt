@@ -63,7 +63,7 @@ module _ {S E : Type 0} (rules : LaneRules S E) where
       rw (replies_are, none, none') refl
 
 module _ {S E : Type 0} {sending : Sending} (laws : SendsLawfully sending) (rules : LaneRules S E) (start : S) (quiet : rules.waits start ≡ false) where
-  -- for want of memory nothing was done
+  -- where memory ran out nothing was done
   pub ends_undriven : (first first' second second' : SourceState) (before after : Outside) → after.written ≡ before.written
       → sending.Begins first.left second.left [] → EndsBy sending rules start first first' second second' before after statuses.NoMemory
   ends_undriven first first' second second' before after same begin =
@@ -74,7 +74,7 @@ module _ {S E : Type 0} {sending : Sending} (laws : SendsLawfully sending) (rule
             (writes_none laws rules start first.left second.left (to_come before.reading before.replies.left) before.written begin),
       ))))
 
-  -- The items before this one drove the machine, which refused it or a reply behind it.
+  -- The items before this one drove the machine, which refused it or a reply after it.
   record Refused (before after : Outside) (taken : List Item) (status : Status) : Type 0 where
     pub items : List Item
     pub item : Item
@@ -182,7 +182,7 @@ module _ {S E : Type 0} {sending : Sending} (laws : SendsLawfully sending) (rule
     leaves_refused never none =
         leaves_fails first first' second second' run.first run.second before after ran.taken status refused ran.lanes (never none) refused.fails
 
-    -- and a lane ended for want of memory
+    -- and a lane ended where memory ran out
     upto_refused : EndsBy sending rules start first first' second second' before after statuses.NoMemory
     upto_refused =
         inr (inr (inr (inr (refl, upto_fails first first' second second' run.first run.second before after ran.taken status refused ran.lanes refused.fails))))
@@ -202,7 +202,7 @@ module _ {S E : Type 0} {sending : Sending} (laws : SendsLawfully sending) (rule
     pub quiet_then : rules.waits t ≡ false
     quiet_then = drove.2
 
-    -- one of them ended for want of memory
+    -- one of them ended where memory ran out
     upto_done : EndsBy sending rules start first first' second second' before mid statuses.NoMemory
     upto_done =
         let begin = begins_all laws rules start first first' second second' ran.taken run.first run.second ran.lanes in
@@ -250,7 +250,7 @@ module _ {S E : Type 0} {sending : Sending} (laws : SendsLawfully sending) (rule
         → LeavesInput before.replies after.replies
     leaves_lanes after never behind none = (behind.unheard none).1 ∙ leaves_driven (never none)
 
-  -- One of the lanes ended for want of memory, whatever the reconciler made of what they sent.
+  -- One of the lanes ended where memory ran out, whatever the reconciler made of what they sent.
   module _ (first first' second second' : SourceState) (before mid : Outside) (t : S) (run : LaneRun)
       (ran : RanBy (sending.Ended first first' second second') (DrivesItem rules) (RefusesNext rules) start t before mid run) where
     unknown_by : (outcome : Result (Unit {0}) Status) → run.outcome ≡ outcome

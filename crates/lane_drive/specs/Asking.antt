@@ -33,7 +33,7 @@ pub record AwaitsReply {S E : Type 0} (rules : LaneRules S E) (items : List Item
   pub none_held : HoldsLine now.reading → ⊥
   pub waits : rules.waits state ≡ true
 
--- a machine that awaits no reply takes the item, and awaits one behind it
+-- a machine that awaits no reply takes the item, and awaits one after it
 abbrev pub AsksFor : {S E : Type 0} → LaneRules S E → (s : S) (item : Item) (before now : Outside) → Type 0
 AsksFor rules s item before now = rules.waits s ≡ false → AwaitsReply rules (item ∷ []) s before now
 
@@ -46,7 +46,7 @@ pub record AnswersAll {S E : Type 0} (rules : LaneRules S E) (start : S) (before
   pub quiet : rules.waits state ≡ false
   pub is : written ≡ now.written
 
--- Just these items were taken, and the machine stopped at the last of them, or at a reply behind it. This stands written.
+-- Just these items were taken, and the machine stopped at the last of them, or at a reply after it. This stands written.
 pub record HasStopped {S E : Type 0} (rules : LaneRules S E) (start : S) (before : Outside) (items : List Item) (written : Option (List ℕ)) : Type 0 where
   pub driven : List Item
   pub item : Item
@@ -63,7 +63,7 @@ pub record HasStopped {S E : Type 0} (rules : LaneRules S E) (start : S) (before
 
 module _ {S E : Type 0} (sending : Sending) (rules : LaneRules S E) (start : S) where
   -- All that both lanes sent was taken, and just its text was written. No other line came whole, and where there are replies it is still to
-  -- be seen that the input is at its end. That a lane ended because its reading failed is possible only where its source isn't safe.
+  -- be seen that the input is at its end. That a lane ended because its reading failed is possible only where its source isn't unfailing.
   pub record LooksBehind (first second : SourceState) (before now : Outside) : Type 0 where
     pub first' : SourceState
     pub second' : SourceState

@@ -69,7 +69,7 @@ pub record AreEvents {S E : Type 0} (belongs : Lane → Event → Bool) (rules :
   pub heard : rules.hears ≡ true → (bytes : List ℕ) × (replies ≡ Some bytes) × AreLinesOf (Some bytes) lines
   pub unheard : rules.hears ≡ false → lines ≡ []
 
--- where this is so, both files open, and no count of faults rises, a run is done, but for want of memory
+-- where this is so, both files open, and no count of faults rises, a run is done, unless memory runs out
 abbrev pub CompleteIf : Type 0 → Status → (files files' : FilesState) (reads reads' writes writes' : ℕ) → Type 0
 CompleteIf Ready status files files' reads reads' writes writes' = Ready
     → files'.failed_opens ≡ files.failed_opens → files'.failed_reads ≡ files.failed_reads → ¬ (Rose reads reads') → ¬ (Rose writes writes')
@@ -87,7 +87,7 @@ module _ {S E : Type 0} (belongs : Lane → Event → Bool) (rules : LaneRules S
       → Type 0
   IsComplete first second status files files' replies = CompleteIf (AreReadable first second replies) status files files'
 
-  -- Each line of both files is an event of its lane. Whatever is sent for these, in whatever order it comes, can be taken but for want of memory.
+  -- Each line of both files is an event of its lane. Whatever is sent for these, in whatever order it comes, can be taken unless memory runs out.
   pub record AreSent (sending : Sending) (first second replies : Option (List ℕ)) : Type 0 where
     pub lines : List Line
     pub events : AreEvents belongs rules first second replies lines

@@ -21,7 +21,7 @@ AreHeard {S} {E} rules (line ∷ lines) s t entries =
     (next : S) × (first : List E) × (rest : List E) × (rules.waits s ≡ true) × (rules.hear s line ≡ Goes next first) × AreHeard rules lines next t rest
     × (entries ≡ first ++ rest)
 
--- The item was taken where no reply was awaited, and these lines were heard behind it.
+-- The item was taken where no reply was awaited, and these lines were heard after it.
 pub record IsTaken {S E : Type 0} (rules : LaneRules S E) (item : Item) (replies : List Line) (s t : S) (entries : List E) : Type 0 where
   pub quiet : rules.waits s ≡ false
   pub next : S
@@ -31,7 +31,7 @@ pub record IsTaken {S E : Type 0} (rules : LaneRules S E) (item : Item) (replies
   pub heard : AreHeard rules replies next t rest
   pub entries_are : entries ≡ first ++ rest
 
--- The items were taken one after the other, with these replies. Behind each item but the last none is awaited any more.
+-- The items were taken one after the other, with these replies. After each item but the last none is awaited any more.
 abbrev pub AreTaken : {S E : Type 0} → LaneRules S E → List Item → List Line → S → S → List (Told E) → Type 0
 AreTaken rules [] replies s t told = (replies ≡ []) × (t ≡ s) × (told ≡ [])
 AreTaken {S} {E} rules (item ∷ items) replies s t told =
@@ -42,7 +42,7 @@ AreTaken {S} {E} rules (item ∷ items) replies s t told =
 abbrev pub told_text : {S E : Type 0} → LaneRules S E → List (Told E) → List ℕ
 told_text rules told = flat_map (λ one. item_text rules one.item one.entries) told
 
--- all entries, one behind the other
+-- all entries, one after the other
 abbrev pub entries_of : {E : Type 0} → List (Told E) → List E
 entries_of told = flat_map (λ one. one.entries) told
 

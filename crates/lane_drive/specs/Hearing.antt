@@ -1,4 +1,4 @@
--- What one item, with the replies behind it, makes of a machine and of what surrounds it.
+-- What one item, with the replies after it, makes of a machine and of what surrounds it.
 use Rattle.std.specs.Prelude.{◌≡◌, ◌≢◌, ◌⊎◌, ◌≤◌, true, false, List, [], ◌∷◌}
 use Rattle.std.specs.List.{flat_map}
 use Rattle.std.specs.Io.KnownBytes.{IsAtEnd}
@@ -50,7 +50,7 @@ pub record GoesBehind {S E : Type 0} (rules : LaneRules S E) (s : S) (status : S
   pub stops : StopsReading rules s status before after
   pub ill : status ≢ Done
 
--- Where no reply is awaited: the item is taken, with the replies behind it, and none is awaited any more.
+-- Where no reply is awaited: the item is taken, with the replies after it, and none is awaited any more.
 abbrev pub DrivesItem : {S E : Type 0} → LaneRules S E → (s t : S) (item : Item) (before after : Outside) → Type 0
 DrivesItem {S} {E} rules s t item before after =
     rules.waits s ≡ false → ((told : List (Told E)) × Drives rules (item ∷ []) s t told before after × (rules.waits t ≡ false))
@@ -62,7 +62,7 @@ pub record FailsItem {S E : Type 0} (rules : LaneRules S E) (status : Status) (s
   pub refuses : RefusesItem refusal rules s item before.written after.written before.faults after.faults
   pub unread : (after.reading ≡ before.reading) × (after.replies ≡ before.replies)
 
--- The item is taken, and one of the replies behind it stops the run.
+-- The item is taken, and one of the replies after it stops the run.
 pub record FailsBehind {S E : Type 0} (rules : LaneRules S E) (status : Status) (s : S) (item : Item) (before after : Outside) : Type 0 where
   pub state : S
   pub told : List (Told E)

@@ -67,7 +67,7 @@ as_they_are belongs = record {
 }
 
 module _ {S E : Type 0} (sending : Sending) (rules : LaneRules S E) (start : S) where
-  -- The run stops at an item that isn't taken, or whose text isn't written whole. The lanes were read to their ends, and what they sent behind
+  -- The run stops at an item that isn't taken, or whose text isn't written whole. The lanes were read to their ends, and what they sent after
   -- that item was dropped.
   pub record StopsAtItem (first first' second second' : SourceState) (before after : Outside) (status : Status) : Type 0 where
     pub items : List Item
@@ -84,11 +84,11 @@ module _ {S E : Type 0} (sending : Sending) (rules : LaneRules S E) (start : S) 
     pub stops : ((rules.take state item ≡ Stops status) × Grows mid.written after.written [])
         ⊎ ((halt : Halt) × (status ≡ status_of_halt halt) × HaltsItem halt rules state item mid.written after.written mid.faults after.faults)
     pub unread : (after.reading ≡ mid.reading) × (after.replies ≡ mid.replies)
-    -- and for want of memory neither lane ended
+    -- and where memory ran out neither lane ended
     pub known : (end ≢ NoMemory) × (end' ≢ NoMemory)
 
   -- A reply is awaited, and the next line isn't one, can't be read, or isn't there; or what it comes to isn't written whole. What the lanes sent
-  -- behind the items was dropped.
+  -- after the items was dropped.
   pub record StopsAtReply (first first' second second' : SourceState) (before after : Outside) (status : Status) : Type 0 where
     pub items : List Item
     pub dropped : List Item
@@ -101,7 +101,7 @@ module _ {S E : Type 0} (sending : Sending) (rules : LaneRules S E) (start : S) 
     pub drove : Drives rules items start state told before mid
     pub waits : rules.waits state ≡ true
     pub stops : StopsReading rules state status mid after
-    -- and for want of memory neither lane ended
+    -- and where memory ran out neither lane ended
     pub known : (end ≢ NoMemory) × (end' ≢ NoMemory)
 
   -- All that both lanes sent was taken, in an order that is each lane's own, and no reply is awaited. The lanes ended so.
@@ -112,10 +112,10 @@ module _ {S E : Type 0} (sending : Sending) (rules : LaneRules S E) (start : S) 
     pub told : List (Told E)
     pub drove : Drives rules items start state told before mid
     pub quiet : rules.waits state ≡ false
-    -- and for want of memory neither did
+    -- and where memory ran out neither did
     pub known : (end ≢ NoMemory) × (end' ≢ NoMemory)
 
-  -- Behind the last reply the input isn't at its end.
+  -- After the last reply the input isn't at its end.
   pub record StopsBehind (first first' second second' : SourceState) (before after : Outside) (status : Status) : Type 0 where
     pub end : LaneEnd
     pub end' : LaneEnd
@@ -149,8 +149,8 @@ module _ {S E : Type 0} (sending : Sending) (rules : LaneRules S E) (start : S) 
     pub taken : AreTaken rules items replies start state told
     pub wrote : GrowsUpTo before after (told_text rules told)
 
-  -- A beginning of the text of the items that drove a machine was written, or of these and the one behind them, which it refused. It stands as it
-  -- may behind them.
+  -- A beginning of the text of the items that drove a machine was written, or of these and the one after them, which it refused. It stands as it
+  -- may after them.
   pub record LeavesMachine (Stands : List Item → Option Item → Type 0) (first second : Option (List ℕ)) (now : Option Input) (before after : Option (List ℕ))
       : Type 0 where
     pub begun : WritesBegun first second now before after
@@ -160,7 +160,7 @@ module _ {S E : Type 0} (sending : Sending) (rules : LaneRules S E) (start : S) 
     pub sent : sending.Begins first second (driven ++ option_to_list refused)
     pub stands : Stands driven refused
 
-  -- how the run of two open lanes ends: by the reconciler, behind the last reply, as the lanes did, or for want of memory
+  -- how the run of two open lanes ends: by the reconciler, after the last reply, as the lanes did, or as memory ran out
   abbrev pub EndsBy : (first first' second second' : SourceState) (before after : Outside) → Status → Type 0
   EndsBy first first' second second' before after status =
       StopsAtItem first first' second second' before after status

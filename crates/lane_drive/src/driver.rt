@@ -10,7 +10,7 @@ use line_run::{PacedSource, status_of_refusal};
 use mlb_edge::{LineReader, Sink};
 use std::alloc::Global;
 
-/// Drives a machine by items. Behind each item all replies to what it came to are heard.
+/// Drives a machine by items. After each item all replies to what it came to are heard.
 pub(crate) struct Driver<M> {
     pub(crate) replies: Replies<M>,
 }

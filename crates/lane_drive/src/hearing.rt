@@ -13,7 +13,8 @@ use line_run::{PacedSource, next_step};
 use mlb_edge::{LineReader, Sink};
 use std::alloc::Global;
 
-/// Hears a reply, and the replies to what comes of it, until none is awaited. `Err` is the status that the run stops with.
+/// Hears a reply, and the replies to what comes of it, until none is awaited. `Err` is the status
+/// that the run stops with.
 pub(crate) fn hear_replies<M: LaneMachine, I: PacedSource<K>, K: Sink>(
     alloc: Global,
     replies: &mut Replies<M>,
@@ -21,13 +22,16 @@ pub(crate) fn hear_replies<M: LaneMachine, I: PacedSource<K>, K: Sink>(
     input: &mut I,
     out: &mut K,
 ) -> Result<(), Status>
-    requires live { MayBeAsked I.name I.may_read input.old (λ i r o. AwaitsMore M.rules (M.state replies.old.machine)
+    requires live { MayBeAsked I.name I.may_read input.old
+        (λ i r o. AwaitsMore M.rules (M.state replies.old.machine)
         (outside reader.old (source_state (I.left input.old) (I.name input.old) (I.faults input.old))
         (K.written out.old) (K.faults out.old))
         (outside r (source_state (I.left i) (I.name i) (I.faults i)) (K.written o) (K.faults o))) }
     ensures name { I.name input.new ≡ I.name input.old }
-    ensures quiet { M.rules.waits (M.state replies.old.machine) ≡ false → replies.new ≡ replies.old }
-    ensures ok { OnOk result (Hears M.rules (M.state replies.old.machine) (M.state replies.new.machine)
+    ensures quiet { M.rules.waits (M.state replies.old.machine) ≡ false
+        → replies.new ≡ replies.old }
+    ensures ok { OnOk result (Hears M.rules (M.state replies.old.machine)
+        (M.state replies.new.machine)
         (outside reader.old (source_state (I.left input.old) (I.name input.old) (I.faults input.old))
         (K.written out.old) (K.faults out.old))
         (outside reader.new (source_state (I.left input.new) (I.name input.new) (I.faults input.new))
@@ -46,8 +50,8 @@ pub(crate) fn hear_replies<M: LaneMachine, I: PacedSource<K>, K: Sink>(
     Ok(())
 }
 
-/// Sees that the input is at its end behind the last reply, if there are replies. `Some` is the status that the run stops with where it
-/// isn't.
+/// Sees that the input is at its end after the last reply, if there are replies. `Some` is the
+/// status that the run stops with where it isn't.
 pub(crate) fn look_behind<M: LaneMachine, I: PacedSource<K>, K: Sink>(
     alloc: Global,
     replies: &mut Replies<M>,
@@ -56,7 +60,8 @@ pub(crate) fn look_behind<M: LaneMachine, I: PacedSource<K>, K: Sink>(
     out: &mut K,
 ) -> Option<Status>
     requires quiet { M.rules.waits (M.state replies.old.machine) ≡ false }
-    requires paced { M.rules.hears ≡ true → (HoldsLine reader.old → ⊥) → I.may_read input.old reader.old out.old }
+    requires paced { M.rules.hears ≡ true → (HoldsLine reader.old → ⊥)
+        → I.may_read input.old reader.old out.old }
     ensures unheard { M.rules.hears ≡ false → replies.new ≡ replies.old }
     ensures none { IfNone result (EndsHearing M.rules
         (outside reader.old (source_state (I.left input.old) (I.name input.old) (I.faults input.old))

@@ -1,5 +1,6 @@
 //! What is driven by the items of two lanes.
-ghost use Rattle.std.specs.Prelude.{◌≡◌, ◌≢◌, ◌⊎◌, ◌≤◌, ⊤, true, false, List, [], ◌∷◌, ◌++◌, Option, Some, None, OnOk, OnErr, IfOk, IfErr, IsTrue};
+ghost use Rattle.std.specs.Prelude.{◌≡◌, ◌≢◌, ◌⊎◌, ◌≤◌, ⊤, true, false, List, [], ◌∷◌, ◌++◌};
+ghost use Rattle.std.specs.Prelude.{Option, Some, None, OnOk, OnErr, IfOk, IfErr, IsTrue};
 ghost use Rattle.kube_lines.specs.OutputLines.{is_taken};
 ghost use Rattle.kube_model.specs.declared.put.Put.{Put};
 ghost use Rattle.kube_model.specs.declared.status.Status.{Status};
@@ -9,7 +10,8 @@ ghost use Rattle.lane_mail.specs.declared.lane.Lane.{Lane};
 ghost use Rattle.lane_mail.specs.declared.lane.Lane.TheVariants.{First, Second};
 ghost use Rattle.line_run.specs.Machine.{Stops};
 ghost use Rattle.line_run.specs.Steps.{Takes, Refuses};
-ghost use Rattle.lane_drive.specs.LaneRules.{LaneRules, IsHeldLimit, IsItemLimit, reply_rules, TakesItem, RefusesItem};
+ghost use Rattle.lane_drive.specs.LaneRules.{LaneRules, IsHeldLimit, IsItemLimit, reply_rules};
+ghost use Rattle.lane_drive.specs.LaneRules.{TakesItem, RefusesItem};
 ghost use Rattle.mlb_edge.specs.declared.lines.Line.{Line};
 
 use kube_model::{LaneName, Status};
@@ -19,7 +21,8 @@ use mlb_base::NoMemory;
 use mlb_edge::{Line, Sink};
 use std::alloc::Global;
 
-/// Takes the items of two lanes one after the other, and the replies to what it writes, and writes what comes of each.
+/// Takes the items of two lanes one after the other, and the replies to what it writes, and writes
+/// what comes of each.
 pub trait LaneMachine {
     /// What its items and replies lead from and to.
     ghost State: { Type 0 };
@@ -33,7 +36,8 @@ pub trait LaneMachine {
     /// What an item and a reply are to a state, and what is written of an entry.
     ghost rules: { LaneRules State TranscriptEntry };
 
-    /// It may stand so behind these items, and where it refused the one behind them. Where it says nothing of that, it may stand so behind any.
+    /// It may stand so after these items, and where it refused the one after them. Where it says
+    /// nothing of that, it may stand so after any.
     ghost Behind: { Self → List Item → Option Item → Type 0 } = { λ _ _ _. ⊤ };
 
     /// The name of the lane.
@@ -48,15 +52,18 @@ pub trait LaneMachine {
     fn waits(&self) -> bool
         ensures { result ≡ rules.waits (state self.now) };
 
-    /// Takes the item. The line that tells of it and what it comes to are written before this call returns.
+    /// Takes the item. The line that tells of it and what it comes to are written before this call
+    /// returns.
     fn take_item<K: Sink>(&mut self, alloc: Global, item: Item, out: &mut K) -> Result<(), Refusal>
         requires { rules.waits (state self.old) ≡ false }
         ensures ok { OnOk result (TakesItem rules (state self.old) (state self.new) item
             (K.written out.old) (K.written out.new)) }
         ensures err { IfErr result (λ refusal. RefusesItem refusal rules (state self.old) item
             (K.written out.old) (K.written out.new) (K.faults out.old) (K.faults out.new)) }
-        ensures behind { OnOk result ((items : List Item) → Behind self.old items None → Behind self.new (items ++ item ∷ []) None) }
-        ensures refused { OnErr result ((items : List Item) → Behind self.old items None → Behind self.new items (Some item)) }
+        ensures behind { OnOk result ((items : List Item) → Behind self.old items None
+            → Behind self.new (items ++ item ∷ []) None) }
+        ensures refused { OnErr result
+            ((items : List Item) → Behind self.old items None → Behind self.new items (Some item)) }
         ensures later { K.faults out.old ≤ K.faults out.new };
 
     /// Takes the line as the reply that is awaited, and writes what comes of it before it returns.
@@ -64,7 +71,8 @@ pub trait LaneMachine {
         requires { rules.waits (state self.old) ≡ true }
         ensures ok { OnOk result (Takes (reply_rules rules) (state self.old) (state self.new) line
             (K.written out.old) (K.written out.new)) }
-        ensures err { IfErr result (λ refusal. Refuses refusal (reply_rules rules) (state self.old) line
+        ensures err { IfErr result (λ refusal. Refuses refusal (reply_rules rules)
+            (state self.old) line
             (K.written out.old) (K.written out.new) (K.faults out.old) (K.faults out.new)) }
         ensures later { K.faults out.old ≤ K.faults out.new };
 

@@ -1,7 +1,11 @@
-//! A run over two lane files: a machine is driven by their items, and by the replies to what it writes.
+//! A run over two lane files: a machine is driven by their items, and by the replies to what it
+//! writes.
 //!
-//! The machine is the program's own. What it is driven by, what is written, and how the run ends is said and proved
-//! here, once for all programs.
+//! The machine is the program's own. What it is driven by, what is written, and how the run ends is
+//! said and proved here, once for all programs.
+//!
+//! Clauses on lanes speak of lists of items that there are, since the order in which two threads
+//! send isn't the files'.
 #![tactic(auto)]
 
 mod driver;

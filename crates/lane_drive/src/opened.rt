@@ -18,8 +18,8 @@ use mlb_edge::{LineReader, Sink};
 use std::alloc::Global;
 use std::thread::Threads;
 
-/// Drives the machine by what is sent for the items of both sources, and by the lines of the input as replies, until both lanes have ended.
-/// Where there are replies, the input is at its end then.
+/// Drives the machine by what is sent for the items of both sources, and by the lines of the input
+/// as replies, until both lanes have ended. Where there are replies, the input is at its end then.
 pub(crate) fn run_opened<
     M: LaneMachine + Lanes + Send,
     A: Turner + Send,
@@ -44,27 +44,30 @@ pub(crate) fn run_opened<
     requires quiet { M.rules.waits (M.state driver.old.replies.machine) ≡ false }
     requires may { MayDrive M.rules (M.state driver.old.replies.machine)
         (λ before now. (u : A.State) × (v : B.State)
-        × AsksOf (turned A.Turns B.Turns M.belongs (A.state first_turner.old) u (B.state second_turner.old) v)
+        × AsksOf (turned A.Turns B.Turns M.belongs (A.state first_turner.old) u
+        (B.state second_turner.old) v)
         M.rules (M.state driver.old.replies.machine)
-        (lane_state (S.left first.old) (S.name first.old) (S.faults first.old) (S.safe first.old))
-        (lane_state (S.left second.old) (S.name second.old) (S.faults second.old) (S.safe second.old)) before now)
+        (lane_state (S.left first.old) (S.name first.old) (S.faults first.old) (S.unfailing first.old))
+        (lane_state (S.left second.old) (S.name second.old) (S.faults second.old) (S.unfailing second.old)) before now)
         I.name I.may_read R.may_wait R.may_drop K.written
-        (λ i r o. outside r (source_state (I.left i) (I.name i) (I.faults i)) (K.written o) (K.faults o))
+        (λ i r o. outside r (source_state (I.left i) (I.name i) (I.faults i)) (K.written o)
+        (K.faults o))
         rt.now input.old reader.old out.old }
     ensures ended { EndsBy (turned A.Turns B.Turns M.belongs
         (A.state first_turner.old) (A.state first_turner.new) (B.state second_turner.old) (B.state second_turner.new))
         M.rules (M.state driver.old.replies.machine)
-        (lane_state (S.left first.old) (S.name first.old) (S.faults first.old) (S.safe first.old))
-        (lane_state (S.left first.new) (S.name first.new) (S.faults first.new) (S.safe first.new))
-        (lane_state (S.left second.old) (S.name second.old) (S.faults second.old) (S.safe second.old))
-        (lane_state (S.left second.new) (S.name second.new) (S.faults second.new) (S.safe second.new))
+        (lane_state (S.left first.old) (S.name first.old) (S.faults first.old) (S.unfailing first.old))
+        (lane_state (S.left first.new) (S.name first.new) (S.faults first.new) (S.unfailing first.new))
+        (lane_state (S.left second.old) (S.name second.old) (S.faults second.old) (S.unfailing second.old))
+        (lane_state (S.left second.new) (S.name second.new) (S.faults second.new) (S.unfailing second.new))
         (outside reader.old (source_state (I.left input.old) (I.name input.old) (I.faults input.old))
         (K.written out.old) (K.faults out.old))
         (outside reader.new (source_state (I.left input.new) (I.name input.new) (I.faults input.new))
         (K.written out.new) (K.faults out.new)) result }
 
-    // However it ends, a beginning of the text of the items that drove the machine was written, or of these and the next one, which it refused. One that
-    // hears no replies stands as it may behind them.
+    // However it ends, a beginning of the text of the items that drove the machine was written, or
+    // of these and the next one, which it refused. One that hears no replies stands as it may after
+    // them.
     ensures behind { M.rules.hears ≡ false → M.Behind driver.old.replies.machine [] None
         → LeavesMachine (turned A.Turns B.Turns M.belongs
         (A.state first_turner.old) (A.state first_turner.new) (B.state second_turner.old) (B.state second_turner.new))
@@ -72,7 +75,8 @@ pub(crate) fn run_opened<
         (to_come reader.old (I.left input.old)) (K.written out.old) (K.written out.new) }
 
     // Both sources keep their names, and where there are no replies nothing is read of the input.
-    ensures names { (S.name first.new ≡ S.name first.old) × (S.name second.new ≡ S.name second.old) }
+    ensures names { (S.name first.new ≡ S.name first.old)
+        × (S.name second.new ≡ S.name second.old) }
     ensures unheard { M.rules.hears ≡ false → LeavesInput
         (source_state (I.left input.old) (I.name input.old) (I.faults input.old))
         (source_state (I.left input.new) (I.name input.new) (I.faults input.new)) }

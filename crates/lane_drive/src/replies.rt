@@ -7,7 +7,8 @@ use mlb_base::NoMemory;
 use mlb_edge::{Line, Sink};
 use std::alloc::Global;
 
-/// Hears the lines of the input: each is the reply that is awaited, and where none is the input is at its end.
+/// Hears the lines of the input: each is the reply that is awaited, and where none is the input is
+/// at its end.
 pub(crate) struct Replies<M> {
     pub(crate) machine: M,
 }

@@ -32,7 +32,7 @@ fn status_of_lane(name: LaneName, end: LaneEnd) -> Status
     }
 }
 
-/// Whether neither lane ended for want of memory.
+/// Whether neither lane ended where memory ran out.
 pub(crate) fn are_known(first: &LaneEnd, second: &LaneEnd) -> bool
     ensures { IsTrue result → (first.now ≢ LaneEnd.NoMemory) × (second.now ≢ LaneEnd.NoMemory) }
 {

@@ -18,7 +18,8 @@ pub fn write_took<K: Sink>(
     number: u64,
 ) -> Result<(), Halt>
     requires { IsTrue (is_taken lane) }
-    ensures ok { OnOk result (Grows (K.written out.old) (K.written out.new) (line_of (took_text lane number))) }
+    ensures ok { OnOk result (Grows (K.written out.old) (K.written out.new)
+        (line_of (took_text lane number))) }
     ensures err { IfErr result (λ halt. Halts halt (line_of (took_text lane number))
         (K.written out.old) (K.written out.new) (K.faults out.old) (K.faults out.new)) }
     ensures later { K.faults out.old ≤ K.faults out.new }

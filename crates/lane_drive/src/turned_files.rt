@@ -2,7 +2,8 @@
 ghost use Rattle.std.specs.Prelude.{◌≡◌, ℕ, List, [], Some, None, false};
 ghost use Rattle.kube_model.specs.declared.status.LaneName.{LaneName as Name};
 ghost use Rattle.lane_drive.specs.Asking.{AsksOf, MayDrive};
-ghost use Rattle.lane_drive.specs.Clauses.{AtOpenFault, AtReadFault, DoneOf, EndOf, LeavesInput, LeavesOthers, WritesOf, status_of_open, unread};
+ghost use Rattle.lane_drive.specs.Clauses.{AtOpenFault, AtReadFault, DoneOf, EndOf, LeavesInput};
+ghost use Rattle.lane_drive.specs.Clauses.{LeavesOthers, WritesOf, status_of_open, unread};
 ghost use Rattle.lane_drive.specs.Complete.{CompleteOf};
 ghost use Rattle.lane_drive.specs.Files.{files_state};
 ghost use Rattle.lane_drive.specs.Sending.{turned};
@@ -24,8 +25,8 @@ use mlb_edge::{LineReader, OpenEnd, Sink};
 use std::alloc::Global;
 use std::thread::Threads;
 
-/// Drives the machine as `run_lane_files` does, by what the turner of each lane turns the events of its lines into. The machine is handed back, and
-/// both turners come back as their lanes left them.
+/// Drives the machine as `run_lane_files` does, by what the turner of each lane turns the events of
+/// its lines into. The machine is handed back, and both turners come back as their lanes left them.
 pub fn run_turned_files<
     M: LaneMachine + Lanes + Send,
     A: Turner + Send,
@@ -49,14 +50,17 @@ pub fn run_turned_files<
     requires quiet { M.rules.waits (M.state machine) ≡ false }
     requires opens { MayBeOpened F.may_open F.Opens files.old first.now second.now }
 
-    // More replies may be asked for, the next item waited for, and what the lanes still send dropped, just where `run_lane_files` may.
+    // More replies may be asked for, the next item waited for, and what the lanes still send
+    // dropped, just where `run_lane_files` may.
     requires may { MayDrive M.rules (M.state machine)
         (λ before now. (u : A.State) × (v : B.State)
-        × AsksOf (turned A.Turns B.Turns M.belongs (A.state first_turner.old) u (B.state second_turner.old) v) M.rules (M.state machine)
-        (lane_state (F.bytes files.old first.now) (Some first.now) 0 (F.safe files.old first.now))
-        (lane_state (F.bytes files.old second.now) (Some second.now) 0 (F.safe files.old second.now)) before now)
+        × AsksOf (turned A.Turns B.Turns M.belongs (A.state first_turner.old) u
+        (B.state second_turner.old) v) M.rules (M.state machine)
+        (lane_state (F.bytes files.old first.now) (Some first.now) 0 (F.unfailing files.old first.now))
+        (lane_state (F.bytes files.old second.now) (Some second.now) 0 (F.unfailing files.old second.now)) before now)
         I.name I.may_read R.may_wait R.may_drop K.written
-        (λ i r o. outside r (source_state (I.left i) (I.name i) (I.faults i)) (K.written o) (K.faults o))
+        (λ i r o. outside r (source_state (I.left i) (I.name i) (I.faults i)) (K.written o)
+        (K.faults o))
         rt.now input.old unread out.old }
 
     // How the run ended, once both files are open.
@@ -65,53 +69,62 @@ pub fn run_turned_files<
         M.rules (M.state machine) first.now second.now
         (files_state (F.failed_opens files.old) (F.failed_reads files.old))
         (files_state (F.failed_opens files.new) (F.failed_reads files.new))
-        (lane_state (F.bytes files.old first.now) (Some first.now) 0 (F.safe files.old first.now))
-        (lane_state (F.bytes files.old second.now) (Some second.now) 0 (F.safe files.old second.now))
+        (lane_state (F.bytes files.old first.now) (Some first.now) 0 (F.unfailing files.old first.now))
+        (lane_state (F.bytes files.old second.now) (Some second.now) 0 (F.unfailing files.old second.now))
         (source_state (I.left input.old) (I.name input.old) (I.faults input.old))
         (source_state (I.left input.new) (I.name input.new) (I.faults input.new))
         (K.written out.old) (K.written out.new) (K.faults out.old) (K.faults out.new) result.0 }
 
-    // Where it is done, all that was sent for what both files carry was taken, with all lines of the input as replies, and just its text was written.
+    // Where it is done, all that was sent for what both files carry was taken, with all lines of
+    // the input as replies, and just its text was written.
     ensures done { DoneOf (turned A.Turns B.Turns M.belongs
         (A.state first_turner.old) (A.state first_turner.new) (B.state second_turner.old) (B.state second_turner.new))
         M.rules (M.state machine) (F.bytes files.old first.now) (F.bytes files.old second.now) result.0
         (I.left input.old) (I.left input.new) (K.written out.old) (K.written out.new) }
 
-    // However it ends, a beginning of the text of some items was written. They were sent for a beginning of what each file carries, and the replies
-    // to them are the first lines of the input.
+    // However it ends, a beginning of the text of some items was written. They were sent for a
+    // beginning of what each file carries, and the replies to them are the first lines of the
+    // input.
     ensures only { WritesOf (turned A.Turns B.Turns M.belongs
         (A.state first_turner.old) (A.state first_turner.new) (B.state second_turner.old) (B.state second_turner.new))
         M.rules (M.state machine) (F.bytes files.old first.now) (F.bytes files.old second.now)
         (I.left input.old) (K.written out.old) (K.written out.new) }
 
-    // However it ends, that is a beginning of the text of the items that drove the machine, or of these and the next one, which it refused. One that hears
-    // no replies stands as it may behind them. What was sent leads on to the states with which both turners come back.
+    // However it ends, that is a beginning of the text of the items that drove the machine, or of
+    // these and the next one, which it refused. One that hears no replies stands as it may after
+    // them. What was sent leads on to the states with which both turners come back.
     ensures behind { M.rules.hears ≡ false → M.Behind machine [] None
         → LeavesMachine (turned A.Turns B.Turns M.belongs
         (A.state first_turner.old) (A.state first_turner.new) (B.state second_turner.old) (B.state second_turner.new))
         M.rules (M.state machine) (M.Behind result.1) (F.bytes files.old first.now) (F.bytes files.old second.now)
         (to_come unread (I.left input.old)) (K.written out.old) (K.written out.new) }
 
-    // Where each line of both files is an event of its lane, whatever is sent for these, in whatever order it comes, can be taken with the lines of
-    // the input as the replies, or wants memory, and no count of faults rises, it is done, but for want of memory.
-    ensures complete { CompleteOf M.belongs M.rules (M.state machine) (turned A.Turns B.Turns M.belongs
+    // Where each line of both files is an event of its lane, whatever is sent for these, in
+    // whatever order it comes, can be taken with the lines of the input as the replies, or wants
+    // memory, and no count of faults rises, it is done, unless memory runs out.
+    ensures complete { CompleteOf M.belongs M.rules (M.state machine)
+        (turned A.Turns B.Turns M.belongs
         (A.state first_turner.old) (A.state first_turner.new) (B.state second_turner.old) (B.state second_turner.new))
         (F.bytes files.old first.now) (F.bytes files.old second.now) result.0
         (files_state (F.failed_opens files.old) (F.failed_reads files.old))
         (files_state (F.failed_opens files.new) (F.failed_reads files.new))
-        (I.left input.old) (I.faults input.old) (I.faults input.new) (K.faults out.old) (K.faults out.new) }
+        (I.left input.old) (I.faults input.old) (I.faults input.new) (K.faults out.old)
+        (K.faults out.new) }
 
-    // A fault comes only where its count rose, and a file isn't opened exactly where its opening failed.
+    // A fault comes only where its count rose, and a file isn't opened exactly where its opening
+    // failed.
     ensures open_fault { AtOpenFault M.rules.name first.now second.now result.0
         (files_state (F.failed_opens files.old) (F.failed_reads files.old))
         (files_state (F.failed_opens files.new) (F.failed_reads files.new)) }
     ensures read_fault { AtReadFault M.rules.name first.now second.now result.0
         (files_state (F.failed_opens files.old) (F.failed_reads files.old))
-        (files_state (F.failed_opens files.new) (F.failed_reads files.new)) (I.faults input.old) (I.faults input.new) }
+        (files_state (F.failed_opens files.new) (F.failed_reads files.new)) (I.faults input.old)
+        (I.faults input.new) }
     ensures write_fault { AtWriteFault result.0 (K.faults out.old) (K.faults out.new) }
 
     // Where a file isn't opened nothing is read, turned or written.
-    ensures unopened { (lane : Name) → result.0 ≡ Status.OpenFault lane → (input.new ≡ input.old) × (out.new ≡ out.old)
+    ensures unopened { (lane : Name) → result.0 ≡ Status.OpenFault lane → (input.new ≡ input.old)
+        × (out.new ≡ out.old)
         × (first_turner.new ≡ first_turner.old) × (second_turner.new ≡ second_turner.old) }
     ensures bytes { (file : List ℕ) → F.bytes files.new file ≡ F.bytes files.old file }
 

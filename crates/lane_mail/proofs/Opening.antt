@@ -22,6 +22,15 @@ of_mail q r table t items beside of of' same = λ i. record {
   table = same i;
 }
 
+-- and so are those of the inboxes that have these
+pub inboxes_of_mail : (q r : QueueId) (table t : TableId) (x y : QueueId) (items beside : ItemPass) → x ≡ queue_of items → y ≡ queue_of beside
+    → IsSegPassOf q items → IsSegPassOf r beside → t ≡ table
+    → ◌≡◌ {A = MailId} (record { first = x; second = y; table = t }) (record { first = q; second = r; table = table })
+inboxes_of_mail q r table t x y items beside is is' of of' same =
+    let those : ◌≡◌ {A = MailId} (record { first = x; second = y; table = t }) (record { first = queue_of items; second = queue_of beside; table = t }) =
+    λ i. record { first = is i; second = is' i; table = t } in
+    those ∙ of_mail q r table t items beside of of' same
+
 -- a lane's pass sent nothing
 pub new_lane : (lane : Lane) (q : QueueId) (items : ItemPass) (marks : MarkPass) → IsSegPassOf q items → marks.me.1 ≡ []
     → hand_of items ≡ sender lane [] → view marks ≡ sender lane [] → IsLane lane 0 items marks

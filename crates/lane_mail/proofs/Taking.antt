@@ -14,7 +14,7 @@ use Rattle.lane_mail.specs.Inside.{ItemPass, hand_of, IsLaneInbox}
 use Rattle.lane_mail.proofs.LaneLists.{is_lane-same, last_in, both_lengths}
 use Rattle.lane_mail.proofs.Carrying.{took_of}
 
--- the items of a lane, of two lists one behind the other
+-- the items of a lane, of two lists one after the other
 pub items_append : (lane : Lane) (items more : List Item) → items_of lane (items ++ more) ≡ items_of lane items ++ items_of lane more
 items_append lane items more = filter-append (λ x. is_lane lane (item_lane x)) items more
 
@@ -30,7 +30,7 @@ took_lengths items old new took = omega (
   both_lengths item_lane items,
 )
 
--- none, and some behind others
+-- none, and some after others
 pub Took-nil : (old new : Receiver) → TookNone old new → Took [] old new
 Took-nil old new none = record { first = none.first ∙ sym (append-nil old.first); second = none.second ∙ sym (append-nil old.second) }
 

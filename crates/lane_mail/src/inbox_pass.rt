@@ -6,7 +6,8 @@ use crate::lane_inbox::LaneInbox;
 use crate::rules::MarkPass;
 use std::marker::Model;
 
-/// The right to take, which contracts see as the mail, what was taken of each lane, and the counts of the end marks that came.
+/// The right to take, which contracts see as the mail, what was taken of each lane, the counts of
+/// the end marks that came, whose turn it is, and when each lane was last found empty.
 #[derive(Drop)]
 pub struct InboxPass {
     pub(crate) first: LaneInbox,
@@ -14,7 +15,6 @@ pub struct InboxPass {
     pub(crate) marks: MarkPass,
     pub(crate) first_end: Option<u64>,
     pub(crate) second_end: Option<u64>,
-    // Whose turn is next, which no contract sees.
     pub(crate) next: Lane,
 }
 
@@ -30,6 +30,9 @@ impl Model for InboxPass {
       second = p.second.taken;
       first_end = p.first_end;
       second_end = p.second_end;
+      next = p.next;
+      first_empty = p.first.empty;
+      second_empty = p.second.empty;
     } };
 
     ghost invariant = { λ p. IsInbox p.first p.second p.marks p.first_end p.second_end };

@@ -4,7 +4,8 @@ use crate::lane::Lane;
 use crate::rules::{ItemPass, MarkPass};
 use std::marker::Model;
 
-/// What is left of a lane's right once its end mark is put: contracts see the mail, the lane, and all that it sent.
+/// What is left of a lane's right once its end mark is put: contracts see the mail, the lane, and
+/// all that it sent.
 #[derive(Drop)]
 pub struct LaneDone {
     pub(crate) lane: Lane,

@@ -1,5 +1,6 @@
 //! A queue of items for each lane, and beside them one of two end marks.
-ghost use Rattle.std.specs.Prelude.{◌≡◌, ◌^◌, ◌<◌, ◌≤◌, ◌↔◌, ◌+◌, [], ◌∷◌, length, Some, None, IfOk, OnOk, IfErr, IfSome, MatchOption};
+ghost use Rattle.std.specs.Prelude.{◌≡◌, ◌^◌, ◌<◌, ◌≤◌, ◌↔◌, ◌+◌, [], ◌∷◌, length, Some, None};
+ghost use Rattle.std.specs.Prelude.{IfOk, OnOk, IfErr, IfSome, MatchOption};
 
 use crate::inbox_pass::InboxPass;
 use crate::item::Item;
@@ -55,8 +56,10 @@ impl Drop for Mail {
 }
 
 impl Mail {
-    ghost use Rattle.lane_mail.specs.Values.{HasAll, EndsStay, Took, TookNone, lane_queue, sent_more, took_more};
-    ghost use Rattle.lane_mail.specs.Looks.{Gives, GivesNone};
+    ghost use Rattle.lane_mail.specs.Lanes.{other};
+    ghost use Rattle.lane_mail.specs.Values.{HasAll, EndsStay, Took, TookNone, lane_queue};
+    ghost use Rattle.lane_mail.specs.Values.{sent_more, took_more, emptied};
+    ghost use Rattle.lane_mail.specs.Looks.{IsInTurn, FindsNone, TakesNext, Gives, GivesNone};
 
     /// A mail, the right to send of each lane, and the right to take.
     pub fn new(alloc: Global) -> Result<(Mail, LanePass, LanePass, InboxPass), NoMemory>
@@ -65,6 +68,7 @@ impl Mail {
         ensures sent { IfOk result (λ m. (m.1.sent ≡ []) × (m.2.sent ≡ [])) }
         ensures taken { IfOk result (λ m. (m.3.first ≡ []) × (m.3.second ≡ [])) }
         ensures ends { IfOk result (λ m. (m.3.first_end ≡ None) × (m.3.second_end ≡ None)) }
+        ensures next { IfOk result (λ m. m.3.next ≡ Lane.First) }
     {
         let (marks, mut inbox_marks) = Marks::ruled(alloc, 2)?;
         let (first_items, mut first_inbox) = Items::with_rule(alloc)?;
@@ -89,16 +93,8 @@ impl Mail {
             marks: marks.another::<SecondLane>(&mut inbox_marks),
         };
         let inbox = InboxPass {
-            first: LaneInbox {
-                lane: Lane::First,
-                count: 0,
-                items: first_inbox,
-            },
-            second: LaneInbox {
-                lane: Lane::Second,
-                count: 0,
-                items: second_inbox,
-            },
+            first: LaneInbox::new(Lane::First, first_inbox),
+            second: LaneInbox::new(Lane::Second, second_inbox),
             marks: inbox_marks,
             first_end: None,
             second_end: None,
@@ -124,10 +120,11 @@ impl Mail {
     }
 
     /// Sends the item, and waits until fewer than 65,536 items of the lane lie untaken, and fewer than 67,108,864 octets of their lines; this one's has
-    /// `octets`. The item comes back only for want of memory, and then nothing was sent. A lane may send 2^61 items.
+    /// `octets`. The item comes back only where memory ran out, and then nothing was sent. A lane may send 2^61 items.
     ///
-    /// Before the first `take` it doesn't wait for room: where no thread could be made for whoever takes, both lanes are sent whole before anything is
-    /// taken. So whoever takes goes on until both lanes have ended.
+    /// Before the first `take` it doesn't wait for room: where no thread could be made for whoever
+    /// takes, both lanes are sent whole before anything is taken. So whoever takes goes on until
+    /// both lanes have ended.
     pub fn put<R: Wait>(
         &self,
         rt: &R,
@@ -195,12 +192,13 @@ impl Mail {
     // The next item of the lane, if its queue holds one. The other lane's turn is next then.
     fn pop_item<R: Wait>(&self, rt: &R, pass: &mut InboxPass, lane: Lane) -> Option<Item>
         requires { pass.old.mail ≡ self.now }
-        ensures pass { MatchOption result (pass.new ≡ pass.old) (λ item. pass.new ≡ took_more pass.old item) }
+        ensures pass { MatchOption result (pass.new ≡ emptied lane pass.old)
+            (λ item. (item.lane ≡ lane) × (pass.new ≡ took_more pass.old item)) }
         ensures few { IfSome result (λ _. length pass.new.first + length pass.new.second ≤ 2 ^ 62) }
     {
         let item = match lane {
-            Lane::First => pass.first.pop(rt, &self.first_items)?,
-            Lane::Second => pass.second.pop(rt, &self.second_items)?,
+            Lane::First => pass.first.pop(rt, &self.first_items, &pass.second)?,
+            Lane::Second => pass.second.pop(rt, &self.second_items, &pass.first)?,
         };
         pass.next = lane.other();
         Some(item)
@@ -209,7 +207,8 @@ impl Mail {
     // The next item of the lane whose turn it is, or else of the other.
     fn pop_next<R: Wait>(&self, rt: &R, pass: &mut InboxPass) -> Option<Item>
         requires { pass.old.mail ≡ self.now }
-        ensures pass { MatchOption result (pass.new ≡ pass.old) (λ item. pass.new ≡ took_more pass.old item) }
+        ensures pass { MatchOption result (FindsNone pass.old pass.new)
+            (λ item. TakesNext item pass.old pass.new) }
         ensures few { IfSome result (λ _. length pass.new.first + length pass.new.second ≤ 2 ^ 62) }
     {
         let lane = pass.next;
@@ -225,6 +224,7 @@ impl Mail {
         ensures mail { pass.new.mail ≡ pass.old.mail }
         ensures taken { TookNone pass.old pass.new }
         ensures ends { EndsStay pass.old pass.new }
+        ensures next { pass.new.next ≡ pass.old.next }
     {
         match self.marks.pop_as::<Get, R>(rt, &mut pass.marks) {
             Some(mark) => {
@@ -238,10 +238,12 @@ impl Mail {
         }
     }
 
-    // The next item, or that both lanes have ended and each of their items was taken, where either is so now.
+    // The next item, or that both lanes have ended and each of their items was taken, where either
+    // is so now.
     fn look<R: Wait>(&self, rt: &R, pass: &mut InboxPass) -> Option<Taken>
         requires { pass.old.mail ≡ self.now }
-        ensures { MatchOption result (GivesNone pass.old pass.new) (λ taken. Gives taken pass.old pass.new) }
+        ensures { MatchOption result (GivesNone pass.old pass.new)
+            (λ taken. Gives taken pass.old pass.new) }
     {
         if pass.has_all() {
             return Some(Taken::AllEnded);
@@ -261,24 +263,34 @@ impl Mail {
         ensures mail { pass.new.mail ≡ pass.old.mail }
         ensures taken { TookNone pass.old pass.new }
         ensures ends { EndsStay pass.old pass.new }
+        ensures next { pass.new.next ≡ pass.old.next }
     {
         if !self.pop_mark(rt, pass) {
             self.parking.wait_for_more(rt);
         }
     }
 
-    /// The next item, or that both lanes have ended and each of their items was taken. It waits while neither is so.
+    /// The next item, or that both lanes have ended and each of their items was taken. It waits
+    /// while neither is so.
     ///
-    /// Items of one lane come in their order, and the lanes in turn: behind an item the other lane's next one comes, if it was put. End marks may come at
-    /// any call, and tell how many items of the lane there are.
+    /// Items of one lane come in their order, and the lanes by turns: after an item it is the other
+    /// lane's turn, and that one is ignored only where it was found empty after the last item
+    /// taken. End marks may come at any call, and tell how many items of the lane there are.
     pub fn take<R: Wait>(&self, rt: &R, pass: &mut InboxPass) -> Taken
         requires { pass.old.mail ≡ self.now }
         ensures mail { pass.new.mail ≡ pass.old.mail }
-        ensures item { (item : Item) → result ≡ Taken.Item item → Took (item ∷ []) pass.old pass.new }
+        ensures item { (item : Item) → result ≡ Taken.Item item
+            → Took (item ∷ []) pass.old pass.new }
         ensures ended { (result ≡ Taken.AllEnded) ↔ (TookNone pass.old pass.new × HasAll pass.new) }
 
         // No lane sends more than 2^61 items.
-        ensures few { (item : Item) → result ≡ Taken.Item item → length pass.new.first + length pass.new.second ≤ 2 ^ 62 }
+        ensures few { (item : Item) → result ≡ Taken.Item item
+            → length pass.new.first + length pass.new.second ≤ 2 ^ 62 }
+
+        // The lane whose turn it is isn't skipped but where it was found empty.
+        ensures turn { (item : Item) → result ≡ Taken.Item item
+            → IsInTurn item.lane pass.old pass.new }
+        ensures next { (item : Item) → result ≡ Taken.Item item → pass.new.next ≡ other item.lane }
 
         // An end mark that came stays, and after the last item nothing changes any more.
         ensures ends { EndsStay pass.old pass.new }

@@ -1,12 +1,16 @@
 //! How the threads of a mail wait for one another.
 //!
-//! No wake-up is lost. A token is left behind each put, and behind each token that it took, whoever takes looks into the queues of both lanes and into that
-//! of the end marks before it waits again: what was put before is seen then, and what is put later leaves a token again. A sender that waits names the
-//! number of items at which it is to be woken, and looks behind that whether so many were taken; whoever takes tells how many were taken, and looks behind
-//! that whether this number is awaited. All of this has one order, so one of the two sees what the other did. The number awaited is one of an item that
-//! lies in the lane's queue: whoever takes comes to it without waiting, and leaves a token there.
+//! No wake-up is lost. A token is left behind each put, and after each token that it took, whoever
+//! takes looks into the queues of both lanes and into that of the end marks before it waits again:
+//! what was put before is seen then, and what is put later leaves a token again. A sender that
+//! waits names the number of items at which it is to be woken, and looks after that whether so many
+//! were taken; whoever takes tells how many were taken, and looks after that whether this number is
+//! awaited. All of this has one order, so one of the two sees what the other did. The number
+//! awaited is one of an item that lies in the lane's queue: whoever takes comes to it without
+//! waiting, and leaves a token there.
 //!
-//! Nor do they wait for each other: whoever takes waits only where the queues of both lanes are empty, and a sender only where its own isn't.
+//! Nor do they wait for each other: whoever takes waits only where the queues of both lanes are
+//! empty, and a sender only where its own isn't.
 
 use crate::lane::Lane;
 use crate::untaken::Untaken;
@@ -82,7 +86,8 @@ impl Parking {
         }
     }
 
-    /// Waits while too much of the lane, of which so many items were sent, lies untaken. It doesn't wait before anything is taken.
+    /// Waits while too much of the lane, of which so many items were sent, lies untaken. It doesn't
+    /// wait before anything is taken.
     pub(crate) fn wait_for_room<R: Wait>(
         &self,
         rt: &R,

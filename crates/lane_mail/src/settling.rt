@@ -10,7 +10,8 @@ use crate::lane_inbox::LaneInbox;
 use crate::rules::{Gather, ItemPass, Items, MarkPass, Marks, Whole};
 use std::sync::Wait;
 
-/// Takes in what is left of the lane: what was taken of it is what it sent. `ends` is the inbox's pass of the marks.
+/// Takes in what is left of the lane: what was taken of it is what it sent. `ends` is the inbox's
+/// pass of the marks.
 pub(crate) fn settle<R: Wait>(
     rt: &R,
     queue: &Items,
@@ -23,7 +24,8 @@ pub(crate) fn settle<R: Wait>(
     requires queue { (inbox.queue ≡ queue.now) × (lane_queue done.lane done.mail ≡ queue.now) }
     requires marks { IsPassOf marks.now ends.old × (done.mail.table ≡ ends.old.table_id) }
     requires takes { (view ends.old).takes ≡ true }
-    requires ended { of_lane mark_lane inbox.lane (view ends.old).got ≡ mark inbox.lane (length inbox.taken) ∷ [] }
+    requires ended { of_lane mark_lane inbox.lane (view ends.old).got
+        ≡ mark inbox.lane (length inbox.taken) ∷ [] }
     ensures sent { inbox.taken ≡ done.sent }
     ensures taken { (hand_of result).got ≡ done.sent }
     ensures marks { IsSamePass ends.old ends.new }
@@ -31,9 +33,8 @@ pub(crate) fn settle<R: Wait>(
     ensures ends { (view ends.new).got ≡ (view ends.old).got }
 {
     let LaneInbox {
-        lane: _,
-        count: _,
         items: mut taken,
+        ..
     } = inbox;
     queue.absorb::<Gather>(&mut taken, done.items);
     queue.len_as::<Whole, R>(rt, &mut taken);

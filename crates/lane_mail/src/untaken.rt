@@ -49,7 +49,8 @@ impl Untaken {
         }
     }
 
-    /// Whether the sender waits. Where one item alone lies untaken, it does so for a line longer than any.
+    /// Whether the sender waits. Where one item alone lies untaken, it does so for a line longer
+    /// than any.
     pub(crate) fn is_full(&self) -> bool {
         self.lengths.len() >= ITEM_LIMIT || self.octets >= OCTET_LIMIT
     }

@@ -10,7 +10,7 @@ use Rattle.lane_run.specs.Outside.{Outside}
 use Rattle.lane_run.specs.Reconciled.{AreDriven, Drove}
 use Rattle.lane_run.specs.Together.{HasLanes}
 
--- Just these items were taken, and drove it one after the other. It stands behind them as it may.
+-- Just these items were taken, and drove it one after the other. It stands after them as it may.
 pub record DroveSoFar {S : Type 0} (Drives : S → S → Item → Outside → Outside → Type 0) (Stands : List Item → Type 0) (inbox : Receiver) (s t : S)
     (before now : Outside) : Type 0 where
   pub items : List Item
@@ -18,7 +18,7 @@ pub record DroveSoFar {S : Type 0} (Drives : S → S → Item → Outside → Ou
   pub drove : AreDriven Drives items s t before now
   pub stands : Stands items
 
--- more were taken behind these, or none
+-- more were taken after these, or none
 pub lanes_more : (items more : List Item) (old new : Receiver) → HasLanes items old.first old.second → Took more old new
     → HasLanes (items ++ more) new.first new.second
 lanes_more items more old new lanes took = record {
@@ -37,7 +37,7 @@ module _ {S : Type 0} (Drives : S → S → Item → Outside → Outside → Typ
   AreDriven-push (i ∷ items) item s t u before mid after are drives = (are.0, are.1, are.2, AreDriven-push items item are.0 t u are.1 mid after are.3 drives)
 
   module _ {U : Type 0} (Refuses : Status → S → Item → Outside → Outside → Type 0) where
-    -- an item was refused, and what the lanes sent behind it was dropped
+    -- an item was refused, and what the lanes sent after it was dropped
     pub drove_up_to : (status : Status) (items rest : List Item) (item : Item) (s t u : S) (before mid after : Outside)
         → AreDriven Drives items s t before mid → Refuses status t item mid after
         → Drove {U = U} Drives Refuses ((items ++ item ∷ []) ++ rest) s u before after (Err status)

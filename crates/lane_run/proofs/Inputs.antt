@@ -1,4 +1,4 @@
--- Lines that are items, and the others behind them.
+-- Lines that are items, and the others after them.
 use Rattle.std.proofs.Common.{◌≡◌, Bool, List, [], ◌∷◌, ◌++◌, Option, Some, None, refl, ap}
 use Rattle.kube_model.specs.declared.event.Event.{Event}
 use Rattle.lane_mail.specs.declared.lane.Lane.{Lane}

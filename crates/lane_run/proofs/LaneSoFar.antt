@@ -36,13 +36,13 @@ module _ (belongs : Lane → Event → Bool) (lane : Lane) where
     follows = Follows-append (option_map input_of start) now next w.done (line ∷ []) w.follows comes;
   }
 
-  -- the lane's input, behind what was sent
+  -- the lane's input, after what was sent
   input_is : (bytes : List ℕ) (now : Input) (done : List Line) (sent : List Item) → AreItems belongs lane done sent
       → Follows (Some (input_of bytes)) done (Some now)
       → lane_input belongs lane bytes ≡ with_items sent (lane_input_from belongs lane now.lines now.ending)
   input_is bytes now done sent are follows = rw (follows.0, follows.1) (input-behind belongs lane done now.lines now.ending sent are)
 
-  -- nothing comes behind what was sent
+  -- nothing comes after what was sent
   with_none : (sent : List Item) (end : LaneEnd) → record { items = sent; end = end } ≡ with_items sent (no_items end)
   with_none sent end = rw (append-nil sent) refl
 
@@ -108,8 +108,8 @@ module _ (belongs : Lane → Event → Bool) (lane : Lane) where
   -- the lane ends
   pub ended_by : (before now after : SourceState) (r r' : Reading) (sent : List Item) (end : LaneEnd)
       → Watching belongs lane before.left (to_come r now.left) sent → Passes fresh r' before.left after.left
-      → before.faults ≤ now.faults → now.safe ≡ before.safe → EndsAt belongs lane (to_come r now.left) (to_come r' after.left) r'.held after.left now.faults
-      after.faults now.safe end → Sends belongs lane before after sent end
+      → before.faults ≤ now.faults → now.unfailing ≡ before.unfailing → EndsAt belongs lane (to_come r now.left) (to_come r' after.left) r'.held after.left now.faults
+      after.faults now.unfailing end → Sends belongs lane before after sent end
   ended_by before now after r r' sent Done w passes later safety e = (stops before.left (to_come r now.left) sent Whole w e.0, e.1)
   ended_by before now after r r' sent ReadFault w passes later safety e =
       (sends_read before.left after.left r r' now.left sent w e.0 passes e.1, omega (arith, e.2, later), sym safety ∙ e.3)
@@ -122,8 +122,8 @@ module _ (belongs : Lane → Event → Bool) (lane : Lane) where
   -- where nothing more is sent
   pub ended_so : (before now after : SourceState) (r r' : Reading) (sent : List Item) (end : LaneEnd)
       → Watching belongs lane before.left (to_come r now.left) sent → Passes fresh r' before.left after.left
-      → before.faults ≤ now.faults → now.name ≡ before.name → now.safe ≡ before.safe → EndsAt belongs lane (to_come r now.left) (to_come r' after.left) r'.held
-      after.left now.faults after.faults now.safe end → now.faults ≤ after.faults → after.name ≡ now.name → after.safe ≡ now.safe
+      → before.faults ≤ now.faults → now.name ≡ before.name → now.unfailing ≡ before.unfailing → EndsAt belongs lane (to_come r now.left) (to_come r' after.left) r'.held
+      after.left now.faults after.faults now.unfailing end → now.faults ≤ after.faults → after.name ≡ now.name → after.unfailing ≡ now.unfailing
       → Ended belongs lane before after sent end
   ended_so before now after r r' sent end w passes later named safety e later' named' safety' = record {
     sends = ended_by before now after r r' sent end w passes later safety e;

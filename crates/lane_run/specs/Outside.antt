@@ -11,15 +11,15 @@ pub record SourceState : Type 0 where
   -- how often reading has failed
   pub faults : ℕ
   -- it is known that no read fails
-  pub safe : Bool
+  pub unfailing : Bool
 
 -- a source that tells this, and of which any read may fail
 abbrev pub source_state : Option (List ℕ) → Option (List ℕ) → ℕ → SourceState
-source_state left name faults = record { left = left; name = name; faults = faults; safe = false }
+source_state left name faults = record { left = left; name = name; faults = faults; unfailing = false }
 
 -- a source that tells this, and whether it is known that no read fails
 abbrev pub lane_state : Option (List ℕ) → Option (List ℕ) → ℕ → Bool → SourceState
-lane_state left name faults safe = record { left = left; name = name; faults = faults; safe = safe }
+lane_state left name faults unfailing = record { left = left; name = name; faults = faults; unfailing = unfailing }
 
 -- the replies that a reconciler reads, and the sink that it writes to
 pub record Outside : Type 0 where

@@ -42,7 +42,7 @@ module _ {U V : Type 0} (TurnsFirst : U → U → Event → Event → Type 0) (T
   LanesTurned first first' second second' u u' v v' =
       BothEnded (EndedTurned TurnsFirst belongs First first first' u u') (EndedTurned TurnsSecond belongs Second second second' v v')
 
-  -- For a beginning of what each lane carries these items were sent, and the states behind them lead on to those that are left in the end.
+  -- For a beginning of what each lane carries these items were sent, and the states after them lead on to those that are left in the end.
   pub record TurnedBeginnings (first second : Option (List ℕ)) (u u' : U) (v v' : V) (sent : List Item) : Type 0 where
     pub firsts : BeginsTurned TurnsFirst belongs First first u u' (items_of First sent)
     pub seconds : BeginsTurned TurnsSecond belongs Second second v v' (items_of Second sent)

@@ -15,7 +15,7 @@ abbrev pub AreDriven : {S : Type 0} → (S → S → Item → Outside → Outsid
 AreDriven Drives [] s t before after = (t ≡ s) × (after ≡ before)
 AreDriven {S} Drives (item ∷ items) s t before after = (next : S) × (mid : Outside) × Drives s next item before mid × AreDriven Drives items next t mid after
 
--- Some items drove it, and while it takes the one behind them it may ask for replies.
+-- Some items drove it, and while it takes the one after them it may ask for replies.
 pub record AsksIn {S : Type 0} (Drives : S → S → Item → Outside → Outside → Type 0) (Asks : S → Item → Outside → Outside → Type 0) (s : S)
     (before now : Outside) : Type 0 where
   pub driven : List Item
@@ -78,7 +78,7 @@ abbrev pub LeavesOff : {S : Type 0} → (Status → S → Item → Outside → O
 LeavesOff Refuses None state mid after = after ≡ mid
 LeavesOff Refuses (Some item) state mid after = (status : Status) × Refuses status state item mid after
 
--- Just these items drove it, and it may have refused the one behind them. They were sent, and it stands as it may behind them.
+-- Just these items drove it, and it may have refused the one after them. They were sent, and it stands as it may after them.
 pub record StandsBehind {S : Type 0} (Drives : S → S → Item → Outside → Outside → Type 0) (Refuses : Status → S → Item → Outside → Outside → Type 0)
     (Stands : List Item → Option Item → Type 0) (AreSent : List Item → Type 0) (s : S) (before after : Outside) : Type 0 where
   pub driven : List Item

@@ -38,11 +38,11 @@ pub record IsBad (belongs : Lane → Event → Bool) (lane : Lane) (now next : O
   pub bytes_are : bytes ≡ line.bytes
 
 -- why the lane ends
-abbrev pub EndsAt : (Lane → Event → Bool) → Lane → (now next : Option Input) (held' : List ℕ) (left' : Option (List ℕ)) (faults faults' : ℕ) (safe : Bool)
+abbrev pub EndsAt : (Lane → Event → Bool) → Lane → (now next : Option Input) (held' : List ℕ) (left' : Option (List ℕ)) (faults faults' : ℕ) (unfailing : Bool)
     → LaneEnd → Type 0
-EndsAt belongs lane now next held' left' faults faults' safe Done = EndsAs now Whole × IsAtEnd left'
-EndsAt belongs lane now next held' left' faults faults' safe ReadFault = Follows now [] next × HasNoNewline held' × Rose faults faults' × (safe ≡ false)
-EndsAt belongs lane now next held' left' faults faults' safe (LineLimit number) = EndsAs now (LongLine number)
-EndsAt belongs lane now next held' left' faults faults' safe InputLimit = EndsAs now LongInput
-EndsAt belongs lane now next held' left' faults faults' safe (BadLine number bytes) = IsBad belongs lane now next number bytes
-EndsAt belongs lane now next held' left' faults faults' safe NoMemory = ⊤
+EndsAt belongs lane now next held' left' faults faults' unfailing Done = EndsAs now Whole × IsAtEnd left'
+EndsAt belongs lane now next held' left' faults faults' unfailing ReadFault = Follows now [] next × HasNoNewline held' × Rose faults faults' × (unfailing ≡ false)
+EndsAt belongs lane now next held' left' faults faults' unfailing (LineLimit number) = EndsAs now (LongLine number)
+EndsAt belongs lane now next held' left' faults faults' unfailing InputLimit = EndsAs now LongInput
+EndsAt belongs lane now next held' left' faults faults' unfailing (BadLine number bytes) = IsBad belongs lane now next number bytes
+EndsAt belongs lane now next held' left' faults faults' unfailing NoMemory = ⊤

@@ -25,7 +25,7 @@ module _ {S : Type 0} (Turns : S → S → Event → Event → Type 0) where
   abbrev pub LeadsOn : S → S → Type 0
   LeadsOn s t = (items : List Item) × (sent : List Item) × AreTurned s t items sent
 
-  -- the state behind what was sent: where memory was wanting, one item more may have been turned
+  -- the state after what was sent: where memory was wanting, one item more may have been turned
   abbrev pub IsLeft : S → S → LaneEnd → Type 0
   IsLeft s t Done = t ≡ s
   IsLeft s t ReadFault = t ≡ s
@@ -43,7 +43,7 @@ module _ {S : Type 0} (Turns : S → S → Event → Event → Type 0) where
       pub turned : AreTurned s state items sent
       pub left : IsLeft state t end
 
-    -- For a beginning of what the lane carries these items were sent. The state behind them leads on to the one that is left in the end.
+    -- For a beginning of what the lane carries these items were sent. The state after them leads on to the one that is left in the end.
     pub record BeginsTurned (left : Option (List ℕ)) (s t : S) (sent : List Item) : Type 0 where
       pub items : List Item
       pub begins : Begins belongs lane left items

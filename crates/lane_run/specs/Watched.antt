@@ -44,10 +44,10 @@ SendsRead belongs lane (Some bytes) (Some more) items = ReadsUpTo belongs lane b
 abbrev pub StopsAs : (Lane → Event → Bool) → Lane → Option (List ℕ) → List Item → LaneEnd → Type 0
 StopsAs belongs lane left items end = IsInputOf belongs lane left (record { items = items; end = end })
 
--- what a lane has sent, by the way that it ends; that a read fails is possible only where the source isn't safe
+-- what a lane has sent, by the way that it ends; that a read fails is possible only where the source isn't unfailing
 abbrev pub Sends : (Lane → Event → Bool) → Lane → (before after : SourceState) → List Item → LaneEnd → Type 0
 Sends belongs lane before after items Done = StopsAs belongs lane before.left items Done × IsAtEnd after.left
-Sends belongs lane before after items ReadFault = SendsRead belongs lane before.left after.left items × Rose before.faults after.faults × (before.safe ≡ false)
+Sends belongs lane before after items ReadFault = SendsRead belongs lane before.left after.left items × Rose before.faults after.faults × (before.unfailing ≡ false)
 Sends belongs lane before after items (LineLimit number) = StopsAs belongs lane before.left items (LineLimit number)
 Sends belongs lane before after items InputLimit = StopsAs belongs lane before.left items InputLimit
 Sends belongs lane before after items (BadLine number bytes) = StopsAs belongs lane before.left items (BadLine number bytes)
@@ -60,4 +60,4 @@ pub record Ended (belongs : Lane → Event → Bool) (lane : Lane) (before after
   pub begins : Begins belongs lane before.left items
   pub later : before.faults ≤ after.faults
   pub named : after.name ≡ before.name
-  pub safety : after.safe ≡ before.safe
+  pub safety : after.unfailing ≡ before.unfailing

@@ -53,7 +53,8 @@ pub(crate) fn turn_item<T: Turner>(
     turner: &mut T,
     item: Item,
 ) -> Result<Item, LaneEnd>
-    ensures ok { IfOk result (λ sent. TurnsItem T.Turns (T.state turner.old) (T.state turner.new) item sent) }
+    ensures ok { IfOk result (λ sent. TurnsItem T.Turns (T.state turner.old)
+        (T.state turner.new) item sent) }
     ensures err { IfErr result (λ end. end ≡ LaneEnd.NoMemory) }
     ensures same { OnErr result (T.state turner.new ≡ T.state turner.old) }
 {

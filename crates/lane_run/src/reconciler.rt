@@ -1,5 +1,6 @@
 //! What is driven by the items of both lanes.
-ghost use Rattle.std.specs.Prelude.{◌≡◌, ⊤, List, [], ◌∷◌, ◌++◌, Option, Some, None, OnOk, OnErr, IfErr};
+ghost use Rattle.std.specs.Prelude.{◌≡◌, ⊤, List, [], ◌∷◌, ◌++◌, Option, Some, None, OnOk, OnErr};
+ghost use Rattle.std.specs.Prelude.{IfErr};
 ghost use Rattle.kube_model.specs.declared.status.Status.{Status};
 ghost use Rattle.lane_mail.specs.declared.item.Item.{Item};
 ghost use Rattle.lane_run.specs.Outside.{Outside, outside, source_state};
@@ -11,7 +12,8 @@ use line_run::PacedSource;
 use mlb_edge::{LineReader, Sink};
 use std::alloc::Global;
 
-/// Is driven by items one after the other, and writes what comes of each. It may read replies meanwhile.
+/// Is driven by items one after the other, and writes what comes of each. It may read replies
+/// meanwhile.
 pub trait Reconciler {
     /// What its items lead from and to.
     ghost State: { Type 0 };
@@ -19,16 +21,20 @@ pub trait Reconciler {
     /// The state that it has.
     ghost state: { Self → State };
 
-    /// An item drives it from the one state to the other, and what is outside from the one to the other.
+    /// An item drives it from the one state to the other, and what is outside from the one to the
+    /// other.
     ghost Drives: { State → State → Item → Outside → Outside → Type 0 };
 
-    /// It refuses an item in this state with this status, and leads what is outside from the one to the other.
+    /// It refuses an item in this state with this status, and leads what is outside from the one to
+    /// the other.
     ghost Refuses: { Status → State → Item → Outside → Outside → Type 0 };
 
-    /// While it takes the item in this state, and has led what is outside from the one to the other, it may ask for replies.
+    /// While it takes the item in this state, and has led what is outside from the one to the
+    /// other, it may ask for replies.
     ghost Asks: { State → Item → Outside → Outside → Type 0 };
 
-    /// It may stand so behind these items, and where it refused the one behind them. Where it says nothing of that, it may stand so behind any.
+    /// It may stand so after these items, and where it refused the one after them. Where it says
+    /// nothing of that, it may stand so after any.
     ghost Behind: { Self → List Item → Option Item → Type 0 } = { λ _ _ _. ⊤ };
 
     /// Is driven by the item, and writes what comes of it before it returns. `reader` reads the replies of
@@ -44,7 +50,8 @@ pub trait Reconciler {
         requires live { MayBeAsked I.name I.may_read input.old (λ i r o. Asks (state self.old) item
             (outside reader.old (source_state (I.left input.old) (I.name input.old) (I.faults input.old))
             (K.written out.old) (K.faults out.old))
-            (outside r (source_state (I.left i) (I.name i) (I.faults i)) (K.written o) (K.faults o))) }
+            (outside r (source_state (I.left i) (I.name i) (I.faults i)) (K.written o)
+            (K.faults o))) }
         ensures ok { OnOk result (Drives (state self.old) (state self.new) item
             (outside reader.old (source_state (I.left input.old) (I.name input.old) (I.faults input.old))
             (K.written out.old) (K.faults out.old))
@@ -55,7 +62,9 @@ pub trait Reconciler {
             (K.written out.old) (K.faults out.old))
             (outside reader.new (source_state (I.left input.new) (I.name input.new) (I.faults input.new))
             (K.written out.new) (K.faults out.new))) }
-        ensures behind { OnOk result ((items : List Item) → Behind self.old items None → Behind self.new (items ++ item ∷ []) None) }
-        ensures refused { OnErr result ((items : List Item) → Behind self.old items None → Behind self.new items (Some item)) }
+        ensures behind { OnOk result ((items : List Item) → Behind self.old items None
+            → Behind self.new (items ++ item ∷ []) None) }
+        ensures refused { OnErr result
+            ((items : List Item) → Behind self.old items None → Behind self.new items (Some item)) }
         ensures name { I.name input.new ≡ I.name input.old };
 }

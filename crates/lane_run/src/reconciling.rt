@@ -12,8 +12,8 @@ use line_run::PacedSource;
 use mlb_edge::{LineReader, Sink};
 use std::alloc::Global;
 
-/// Takes from the mail until both lanes have ended. Each item drives the reconciler before the next is waited for, up to the first that it
-/// refuses; what the lanes send behind that one is dropped.
+/// Takes from the mail until both lanes have ended. Each item drives the reconciler before the next
+/// is waited for, up to the first that it refuses; what the lanes send after that one is dropped.
 pub(crate) fn reconcile<M: Reconciler, R: PacedWait<K>, I: PacedSource<K>, K: Sink>(
     rt: &R,
     alloc: Global,
@@ -26,17 +26,21 @@ pub(crate) fn reconcile<M: Reconciler, R: PacedWait<K>, I: PacedSource<K>, K: Si
 ) -> Result<(), Status>
     requires mail { inbox.old.mail ≡ mail.now }
     requires fresh { (inbox.old.first ≡ []) × (inbox.old.second ≡ []) }
-    requires may { MayReconcile M.Drives M.Refuses M.Asks (M.state machine.old) I.name I.may_read R.may_wait R.may_drop K.written
-        (λ i r o. outside r (source_state (I.left i) (I.name i) (I.faults i)) (K.written o) (K.faults o))
+    requires may { MayReconcile M.Drives M.Refuses M.Asks
+        (M.state machine.old) I.name I.may_read R.may_wait R.may_drop K.written
+        (λ i r o. outside r (source_state (I.left i) (I.name i) (I.faults i)) (K.written o)
+        (K.faults o))
         rt.now input.old reader.old out.old }
     ensures name { I.name input.new ≡ I.name input.old }
-    ensures behind { M.Behind machine.old [] None → StandsBehind M.Drives M.Refuses (M.Behind machine.new)
+    ensures behind { M.Behind machine.old [] None
+        → StandsBehind M.Drives M.Refuses (M.Behind machine.new)
         (BeginsLanes inbox.new.first inbox.new.second) (M.state machine.old)
         (outside reader.old (source_state (I.left input.old) (I.name input.old) (I.faults input.old))
         (K.written out.old) (K.faults out.old))
         (outside reader.new (source_state (I.left input.new) (I.name input.new) (I.faults input.new))
         (K.written out.new) (K.faults out.new)) }
-    ensures reconciled { Reconciled M.Drives M.Refuses mail.now inbox.new (M.state machine.old) (M.state machine.new)
+    ensures reconciled { Reconciled M.Drives M.Refuses mail.now inbox.new (M.state machine.old)
+        (M.state machine.new)
         (outside reader.old (source_state (I.left input.old) (I.name input.old) (I.faults input.old))
         (K.written out.old) (K.faults out.old))
         (outside reader.new (source_state (I.left input.new) (I.name input.new) (I.faults input.new))

@@ -6,7 +6,8 @@ use kube_model::Event;
 use mlb_base::NoMemory;
 use std::alloc::Global;
 
-/// Turns each event of a lane into the one that is sent for it. What that is may depend on the state that it has then.
+/// Turns each event of a lane into the one that is sent for it. What that is may depend on the
+/// state that it has then.
 pub trait Turner {
     /// What its events lead from and to.
     ghost State: { Type 0 };

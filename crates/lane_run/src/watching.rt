@@ -39,7 +39,8 @@ fn put_item<R: MailWait>(
     }
 }
 
-/// Reads one line and sends what its event is turned into. `Some` says how the lane ended, and then nothing was sent.
+/// Reads one line and sends what its event is turned into. `Some` says how the lane ended, and then
+/// nothing was sent.
 fn send_next<L: Lanes, T: Turner, R: MailWait, S: Source>(
     rt: &R,
     alloc: Global,
@@ -53,19 +54,22 @@ fn send_next<L: Lanes, T: Turner, R: MailWait, S: Source>(
     requires mail { pass.old.mail ≡ mail.now }
     requires lane { pass.old.lane ≡ lane }
     requires room { length pass.old.sent ≤ reader.old.passed }
-    ensures sends { IfNone result (SendsNext T.Turns (T.state turner.old) (T.state turner.new) L.belongs lane pass.old pass.new
+    ensures sends { IfNone result (SendsNext T.Turns (T.state turner.old)
+        (T.state turner.new) L.belongs lane pass.old pass.new
         (to_come reader.old (S.left source.old)) (to_come reader.new (S.left source.new))) }
     ensures ends { IfSome result (λ end. EndsAt L.belongs lane
         (to_come reader.old (S.left source.old)) (to_come reader.new (S.left source.new))
-        reader.new.held (S.left source.new) (S.faults source.old) (S.faults source.new) (S.safe source.old) end) }
+        reader.new.held (S.left source.new) (S.faults source.old) (S.faults source.new)
+        (S.unfailing source.old) end) }
     ensures unsent { IfSome result (λ _. pass.new ≡ pass.old) }
-    ensures left { IfSome result (λ end. IsLeft T.Turns (T.state turner.old) (T.state turner.new) end) }
+    ensures left { IfSome result (λ end. IsLeft T.Turns (T.state turner.old)
+        (T.state turner.new) end) }
     ensures passes { Passes reader.old reader.new (S.left source.old) (S.left source.new) }
     ensures near { IfNone result
         ((reader.old.passed < reader.new.passed) × (reader.new.passed ≤ 2 ^ 40)) }
     ensures later { S.faults source.old ≤ S.faults source.new }
     ensures name { S.name source.new ≡ S.name source.old }
-    ensures safe { S.safe source.new ≡ S.safe source.old }
+    ensures unfailing { S.unfailing source.new ≡ S.unfailing source.old }
 {
     let line = match reader.next_line(source) {
         Ok(Some(line)) => line,
@@ -106,8 +110,8 @@ fn send_lines<L: Lanes, T: Turner, R: MailWait, S: Source>(
     ensures mail { pass.new.mail ≡ pass.old.mail }
     ensures lane { pass.new.lane ≡ pass.old.lane }
     ensures ended { EndedTurned T.Turns L.belongs lane
-        (lane_state (S.left source.old) (S.name source.old) (S.faults source.old) (S.safe source.old))
-        (lane_state (S.left source.new) (S.name source.new) (S.faults source.new) (S.safe source.new))
+        (lane_state (S.left source.old) (S.name source.old) (S.faults source.old) (S.unfailing source.old))
+        (lane_state (S.left source.new) (S.name source.new) (S.faults source.new) (S.unfailing source.new))
         (T.state turner.old) (T.state turner.new) pass.new.sent result }
 {
     'lines: loop {
@@ -135,8 +139,8 @@ fn send_source<L: Lanes, T: Turner, R: MailWait, S: Source>(
     ensures mail { pass.new.mail ≡ pass.old.mail }
     ensures lane { pass.new.lane ≡ pass.old.lane }
     ensures ended { EndedTurned T.Turns L.belongs lane
-        (lane_state (S.left source.old) (S.name source.old) (S.faults source.old) (S.safe source.old))
-        (lane_state (S.left source.new) (S.name source.new) (S.faults source.new) (S.safe source.new))
+        (lane_state (S.left source.old) (S.name source.old) (S.faults source.old) (S.unfailing source.old))
+        (lane_state (S.left source.new) (S.name source.new) (S.faults source.new) (S.unfailing source.new))
         (T.state turner.old) (T.state turner.new) pass.new.sent result }
 {
     let Ok(mut reader) = LineReader::new(alloc) else {
@@ -145,8 +149,8 @@ fn send_source<L: Lanes, T: Turner, R: MailWait, S: Source>(
     send_lines::<L, T, R, S>(rt, alloc, lane, mail, pass, turner, &mut reader, source)
 }
 
-/// Sends what the events of the source's lines are turned into, until the input ends or something stops it, and then puts the
-/// lane's end mark. The lane's pass is used up.
+/// Sends what the events of the source's lines are turned into, until the input ends or something
+/// stops it, and then puts the lane's end mark. The lane's pass is used up.
 pub(crate) fn watch<L: Lanes, T: Turner, R: MailWait, S: Source>(
     rt: &R,
     alloc: Global,
@@ -158,8 +162,8 @@ pub(crate) fn watch<L: Lanes, T: Turner, R: MailWait, S: Source>(
 ) -> (LaneDone, LaneEnd)
     requires { CanWatch mail.now lane pass.old }
     ensures { Watched T.Turns L.belongs lane mail.now
-        (lane_state (S.left source.old) (S.name source.old) (S.faults source.old) (S.safe source.old))
-        (lane_state (S.left source.new) (S.name source.new) (S.faults source.new) (S.safe source.new))
+        (lane_state (S.left source.old) (S.name source.old) (S.faults source.old) (S.unfailing source.old))
+        (lane_state (S.left source.new) (S.name source.new) (S.faults source.new) (S.unfailing source.new))
         (T.state turner.old) (T.state turner.new) result.0 result.1 }
 {
     let Some(mut pass) = pass.pass.take() else {

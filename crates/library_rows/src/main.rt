@@ -1,18 +1,23 @@
-//! What library calls answer that no program makes. A row that begins with `#` says what follows, and is written as it stands.
+//! What library calls answer that no program makes. A row that begins with `#` says what follows,
+//! and is written as it stands.
 //!
 //! - `cover ENTRY`: the prefixes that cover the entry of a pool, or why it is none.
 //! - `read MESSAGE`: what the UPDATE message in hexadecimal says (RFC 4271, section 4.3; RFC 4760; RFC 8092), or `no update`.
 //!
-//! All other rows make the steps of worlds, and write what they leave; behind `#` a world begins anew. The event lines that follow are the
-//! objects that it begins with, up to the line `begin`, or `begin with records` where the services have the records that the lines show.
-//! From there an event line is an edit, one behind the word `reset` sets its object with its own record, and the words of a step are that
-//! step, as `take config`, `turn lost applied` or `crash`. The list behind `restart` or `expire service` is in the store's order, and the
-//! other way round with the word `descending`. `show` writes what is stored, `held NAME` what the controller holds of a service of the
-//! namespace `default`, and `crashes` makes the steps up to each place anew, stops the controller there, once with its put applied and once
-//! without, writes what is stored there, starts it again, has it go on until it has nothing left to do, and writes what is stored then,
-//! with the word `waits` where a service has no address while one of a pool is free; a step that isn't made ends the line with its fault.
-//! All this is done once more with each list in the other order. A line that begins as a step and is none is answered with `no such step`
-//! where there is a world. No class is configured.
+//! All other rows make the steps of worlds, and write what they leave; after `#` a world begins
+//! anew. The event lines that follow are the objects that it begins with, up to the line `begin`,
+//! or `begin with records` where the services have the records that the lines show. From there an
+//! event line is an edit, one after the word `reset` sets its object with its own record, and the
+//! words of a step are that step, as `take config`, `turn lost applied` or `crash`. The list after
+//! `restart` or `expire service` is in the store's order, and the other way round with the word
+//! `descending`. `show` writes what is stored, `held NAME` what the controller holds of a service
+//! of the namespace `default`, and `crashes` makes the steps up to each place anew, stops the
+//! controller there, once with its put applied and once without, writes what is stored there,
+//! starts it again, has it go on until it has nothing left to do, and writes what is stored then,
+//! with the word `waits` where a service has no address while one of a pool is free; a step that
+//! isn't made ends the line with its fault. All this is done once more with each list in the other
+//! order. A line that begins as a step and is none is answered with `no such step` where there is a
+//! world. No class is configured.
 #![tactic(auto)]
 
 mod messages;

@@ -6,7 +6,7 @@ use bgp_reading::{UpdateFault, UpdateParts, read_update};
 use ip_ranges::Prefix;
 use large_numbers::LargeCommunity;
 
-/// Writes the prefixes behind their name, and nothing where there are none.
+/// Writes the prefixes after their name, and nothing where there are none.
 fn show_named(rt: &(impl Print + AllocGlobal), name: &str, prefixes: &[Prefix]) -> Result<()> {
     if prefixes.is_empty() {
         return Ok(());

@@ -1,4 +1,5 @@
-//! A sum on a board: numbers that are pending aren't seen, what was told of is, and a responder answers beside the writer.
+//! A sum on a board: numbers that are pending aren't seen, what was told of is, and a responder
+//! answers beside the writer.
 
 mod sum;
 

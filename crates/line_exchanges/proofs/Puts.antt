@@ -58,7 +58,7 @@ put-printable put fits =
     (tt, (tt, (tt, (tt, (tt, (tt, (tt, (tt, (tt, (tt, (tt, (tt, (IsNumber-decimal put.version fits, (tt, tt)))))))))))))) in
     (tt, (tt, (tt, strings-printable put.holding.addresses (behind_addresses put) behind)))
 
--- more of them, behind one
+-- more of them, after one
 strings-more : (a : AddressValue) (more : List AddressValue) (rest : List Token)
     → print_from true (strings (a ∷ more) (end_array ∷ rest)) ≡ 44 ∷ (quoted_texts (map canonical_text (a ∷ more)) ++ 93 ∷ print_from true rest)
 unfolding print_from

@@ -35,7 +35,7 @@ abbrev pub IsRead : Option Put → List ℕ → List Seen → Type 0
 IsRead None line seen = (event : Event) × (event_of_line line ≡ Ok event) × (seen ≡ seen_event event)
 IsRead (Some put) line seen = (reply : PutReply) × (reply_of put line ≡ Some reply) × (seen ≡ Answered reply ∷ Wrote put ∷ [])
 
--- Behind what was seen, with this put that has no reply yet, if there is one: it is safe wherever it is seen; what is read next is such, what is
+-- After what was seen, with this put that has no reply yet, if there is one: it is safe wherever it is seen; what is read next is such, what is
 -- written then may end with a put; and so on.
 abbrev pub AreSafe : {X : Type 0} → (Option Put → X → List Seen → Type 0) → Option Put → List Seen → List (Exchange X) → Type 0
 AreSafe IsReadAs out seen [] = IsSafeWhereSeen out seen

@@ -1,4 +1,5 @@
-//! What a controller reads and writes, line by line, and the worlds in which that is seen: what its users must believe of a run, without its core.
+//! What a controller reads and writes, line by line, and the worlds in which that is seen: what its
+//! users must believe of a run, without its core.
 #![tactic(auto)]
 
 mod laws;

@@ -11,7 +11,7 @@ use Rattle.line_run.specs.Run.{Run, runs_on, run_from, status_at}
 abbrev pub StopsIn : {S E : Type 0} → Rules S E → S → Status → Type 0
 StopsIn rules s status = ((ending : Ending) × (status ≡ status_at rules ending s)) ⊎ ((line : Line) × (rules.step s line ≡ Stops status))
 
--- Behind what was told before, a run comes to a state of which this holds, and stops in it.
+-- After what was told before, a run comes to a state of which this holds, and stops in it.
 pub record Kept {S E : Type 0} (rules : Rules S E) (Holds : List E → S → Type 0) (told : List E) (run : Run E) : Type 0 where
   pub state : S
   pub kept : Holds (told ++ run.entries) state

@@ -25,7 +25,7 @@ pub record StandsAt (bytes more : List ℕ) (done : List Line) : Type 0 where
   pub number : ℕ
   pub lines_are : (input_of bytes).lines ≡ done ++ (input_from (length front) number (raw_lines (rest ++ more))).lines
 
--- a read failed behind them
+-- a read failed after them
 pub stands_at : (bytes more : List ℕ) (r r' : Reading) (now : Option (List ℕ)) (done : List Line) → Follows (Some (input_of bytes)) done (to_come r now)
     → Follows (to_come r now) [] (to_come r' (Some more)) → Passes fresh r' (Some bytes) (Some more) → HasNoNewline r'.held → StandsAt bytes more done
 stands_at bytes more r r' now done comes same passes waits =

@@ -82,11 +82,11 @@ AtReadFault status reads reads' = (lane : LaneName) → status ≡ ReadFault lan
 abbrev pub AtWriteFault : Status → (writes writes' : ℕ) → Type 0
 AtWriteFault status writes writes' = status ≡ WriteFault → Rose writes writes'
 
--- the status is that of the lines, but for a fault and want of memory
+-- the status is that of the lines, but for a fault and running out of memory
 abbrev pub IsExact : {S E : Type 0} → Rules S E → S → Status → Option (List ℕ) → Type 0
 IsExact rules s status left = IsStatusOf rules s left status ⊎ IsFault status
 
--- where all can be driven the run is done, but for a fault and want of memory
+-- where all can be driven the run is done, but for a fault and running out of memory
 abbrev pub IsComplete : {S E : Type 0} → Rules S E → S → Status → Option (List ℕ) → Type 0
 IsComplete rules s status left = IsReadable rules s left → (status ≡ Done) ⊎ IsFault status
 
@@ -103,12 +103,12 @@ module _ {S E : Type 0} (rules : Rules S E) (cause : Status → Type 0) (s : S) 
     pub held_limit : AtHeldLimit rules cause s status left before after
     pub line_limit : AtLineLimit rules s status left before after
     pub input_limit : AtInputLimit rules s status left before after
-    -- behind a failed read the text of the lines that were read whole; behind a failed write a beginning of the text, and not the whole
+    -- after a failed read the text of the lines that were read whole; after a failed write a beginning of the text, and not the whole
     pub read : AfterRead rules s status left left' before after
     pub part : AfterWrite rules s status left before after
     pub no_memory : AtNoMemory rules s status left before after
     -- over any input at all a beginning of the text of its lines' run
     pub only : WritesOnly rules s left before after
-    -- but for a fault or want of memory the status is that of the lines; and where all can be driven, the run is done
+    -- but for a fault or running out of memory the status is that of the lines; and where all can be driven, the run is done
     pub exact : IsExact rules s status left
     pub complete : IsComplete rules s status left

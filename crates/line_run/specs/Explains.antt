@@ -1,4 +1,4 @@
--- What stands behind each status of a run, by the status.
+-- What stands after each status of a run, by the status.
 use Rattle.std.specs.Prelude.{◌≡◌, ℕ, ◌+◌, ◌^◌, ⊤, Option, Some, None, List}
 use Rattle.std.specs.Io.KnownBytes.{IsAtEnd}
 use Rattle.kube_model.specs.declared.status.LaneName.TheVariants as lanes

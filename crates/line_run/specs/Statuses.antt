@@ -39,7 +39,7 @@ IsEndStatus (NoReply put) = ⊤
 IsEndStatus (Limit what count) = ⊥
 IsEndStatus NoMemory = ⊥
 
--- no line decides it: a fault of the source or the sink, or want of memory
+-- no line decides it: a fault of the source or the sink, or running out of memory
 abbrev pub IsFault : Status → Type 0
 IsFault Done = ⊥
 IsFault Usage = ⊥

@@ -26,8 +26,8 @@ pub trait Machine {
     /// What a line and the end of the input are to a state, and what is written of an entry.
     ghost rules: { Rules State TranscriptEntry };
 
-    /// What is so where a run stops with this status, whatever is known of its lines. It holds nowhere of a
-    /// status that the machine never gives.
+    /// What is so where a run stops with this status, whatever is known of its lines. It holds
+    /// nowhere of a status that the machine never gives.
     ghost cause: { Status → Type 0 };
 
     /// Takes the line, and writes what comes of it before it returns.

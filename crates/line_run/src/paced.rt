@@ -1,18 +1,20 @@
 //! Sources that may be asked for more only at times.
-ghost use Rattle.std.specs.Prelude.{◌≡◌, ◌≤◌, ◌<◌, ◌^◌, ℕ, List, [], ◌∷◌, Option, ⊤, IfOk, OnErr, OnSome, IfErr, IfSome, IfNone, IsErrOf};
+ghost use Rattle.std.specs.Prelude.{◌≡◌, ◌≤◌, ◌<◌, ◌^◌, ℕ, List, [], ◌∷◌, Option, ⊤, IfOk, OnErr};
+ghost use Rattle.std.specs.Prelude.{OnSome, IfErr, IfSome, IfNone, IsErrOf};
 ghost use Rattle.std.specs.Io.KnownBytes.{IsAtEnd};
 ghost use Rattle.mlb_edge.specs.Causes.{Rose};
-ghost use Rattle.mlb_edge.specs.InputLines.{Follows, to_come, EndsAs, Whole, LongLine, LongInput, HoldsLine, Passes};
+ghost use Rattle.mlb_edge.specs.InputLines.{Follows, to_come, EndsAs, Whole, LongLine, LongInput};
+ghost use Rattle.mlb_edge.specs.InputLines.{HoldsLine, Passes};
 ghost use Rattle.mlb_edge.specs.Reading.{Reading};
 ghost use Rattle.mlb_edge.specs.Rows.{HasNoNewline};
 
 use mlb_edge::{Line, LineEnd, LineReader, Sink, Source};
 
-/// A source of lines that may be asked for more only at times, as a live bridge, which sends the next line once it
-/// has seen what the one before came to.
+/// A source of lines that may be asked for more only at times, as a live bridge, which sends the
+/// next line once it has seen what the one before came to.
 ///
-/// It can be read by `next_line` alone, and only beside the sink itself. So a run over any such source shows at each
-/// call that may ask it for more that it may be asked.
+/// It can be read by `next_line` alone, and only beside the sink itself. So a run over any such
+/// source shows at each call that may ask it for more that it may be asked.
 pub trait PacedSource<K: Sink> {
     /// The bytes not yet read, where the source tells them.
     ghost left: { Self → Option (List ℕ) };
@@ -33,19 +35,22 @@ pub trait PacedSource<K: Sink> {
         ensures unread { HoldsLine reader.old → self.new ≡ self.old }
 
         ensures line { IfOk result (λ next. IfSome next (λ line.
-            Follows (to_come reader.old (left self.old)) (line ∷ []) (to_come reader.new (left self.new)))) }
+            Follows (to_come reader.old (left self.old)) (line ∷ [])
+            (to_come reader.new (left self.new)))) }
         ensures near { IfOk result (λ next. OnSome next
             ((reader.old.passed < reader.new.passed) × (reader.new.passed ≤ 2 ^ 40))) }
 
         // At the end of the input no line is left.
-        ensures end { IfOk result (λ next. IfNone next (EndsAs (to_come reader.old (left self.old)) Whole)) }
+        ensures end { IfOk result (λ next. IfNone next
+            (EndsAs (to_come reader.old (left self.old)) Whole)) }
         ensures at_end { IfOk result (λ next. IfNone next (IsAtEnd (left self.new))) }
 
         ensures line_limit { IfErr result (λ e. (number : ℕ) → e ≡ LineEnd.LineLimit number
             → EndsAs (to_come reader.old (left self.old)) (LongLine number)) }
         ensures input_limit { IsErrOf result LineEnd.InputLimit
             → EndsAs (to_come reader.old (left self.old)) LongInput }
-        ensures read_fault { IsErrOf result LineEnd.ReadFault → Rose (faults self.old) (faults self.new) }
+        ensures read_fault { IsErrOf result LineEnd.ReadFault
+            → Rose (faults self.old) (faults self.new) }
         ensures err { OnErr result
             (Follows (to_come reader.old (left self.old)) [] (to_come reader.new (left self.new))) }
 

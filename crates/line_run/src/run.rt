@@ -22,7 +22,8 @@ fn drive_lines<M: Machine, S: PacedSource<K>, K: Sink>(
 ) -> Status
     requires fresh { reader.old ≡ record { held = []; passed = 0; number = 0 } }
     requires live { MayBeAsked S.name S.may_read input.old
-        (λ i r o. IsAnswered M.rules (M.state machine.old) (S.left input.old) r (S.left i) (K.written out.old) (K.written o)) }
+        (λ i r o. IsAnswered M.rules (M.state machine.old) (S.left input.old) r (S.left i)
+        (K.written out.old) (K.written o)) }
     ensures explains { Explains M.rules M.cause (M.state machine.old) result
         (S.left input.old) (S.left input.new) (K.written out.old) (K.written out.new)
         (S.faults input.old) (S.faults input.new) (K.faults out.old) (K.faults out.new) }
@@ -44,7 +45,8 @@ fn run_lines<M: Machine, S: PacedSource<K>, K: Sink>(
     out: &mut K,
 ) -> Status
     requires live { MayBeAsked S.name S.may_read input.old
-        (λ i r o. IsAnswered M.rules (M.state machine.old) (S.left input.old) r (S.left i) (K.written out.old) (K.written o)) }
+        (λ i r o. IsAnswered M.rules (M.state machine.old) (S.left input.old) r (S.left i)
+        (K.written out.old) (K.written o)) }
     ensures explains { Explains M.rules M.cause (M.state machine.old) result
         (S.left input.old) (S.left input.new) (K.written out.old) (K.written out.new)
         (S.faults input.old) (S.faults input.new) (K.faults out.old) (K.faults out.new) }
@@ -57,19 +59,20 @@ fn run_lines<M: Machine, S: PacedSource<K>, K: Sink>(
     drive_lines(alloc, &mut reader, machine, input, out)
 }
 
-/// Drives the machine by the lines of the input, one after the other, until the input is at its end or
-/// something stops it. The source may be one that may be asked for more only at times: it is asked where all
-/// that came whole was answered, so no output is held back while more is read.
+/// Drives the machine by the lines of the input, one after the other, until the input is at its end
+/// or something stops it. The source may be one that may be asked for more only at times: it is
+/// asked where all that came whole was answered, so no output is held back while more is read.
 pub fn run_machine<M: Machine, S: PacedSource<K>, K: Sink>(
     alloc: Global,
     machine: &mut M,
     input: &mut S,
     out: &mut K,
 ) -> Status
-    // Whenever all that came whole was answered, the source may be asked for more. Nothing else is known of when it
-    // may, so at each call that may ask it all that came whole was answered.
+    // Whenever all that came whole was answered, the source may be asked for more. Nothing else is
+    // known of when it may, so at each call that may ask it all that came whole was answered.
     requires live { MayBeAsked S.name S.may_read input.old
-        (λ i r o. IsAnswered M.rules (M.state machine.old) (S.left input.old) r (S.left i) (K.written out.old) (K.written o)) }
+        (λ i r o. IsAnswered M.rules (M.state machine.old) (S.left input.old) r (S.left i)
+        (K.written out.old) (K.written o)) }
 
     // No status but those of the machine and of any run.
     ensures can_end { CanEnd M.cause result }

@@ -10,7 +10,8 @@ use kube_model::Status;
 use mlb_edge::{LineReader, Sink};
 use std::alloc::Global;
 
-/// Reads one line and drives the machine by it, where the source may be asked for more if no whole line is held.
+/// Reads one line and drives the machine by it, where the source may be asked for more if no whole
+/// line is held.
 ///
 /// `None` says that the line was taken: its text was written before this call returned, so nothing is held
 /// back while the next line is read. `Some` is the status that the run ends with.

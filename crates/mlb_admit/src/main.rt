@@ -1,5 +1,5 @@
-//! The admission tool: says of reviews of a configuration's objects whether their changes may be made, or of any lines what they are
-//! read as.
+//! The admission tool: says of reviews of a configuration's objects whether their changes may be
+//! made, or of any lines what they are read as.
 #![tactic(auto)]
 
 use admit_run::run_admit;

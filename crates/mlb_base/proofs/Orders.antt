@@ -1,4 +1,4 @@
--- Two orders, one behind the other, and the order of numbers.
+-- Two orders, one after the other, and the order of numbers.
 use Rattle.std.proofs.Common.{◌≡◌, ℕ, ◌<◌, ◌==◌, false, Ordering, Less, Equal, Greater, refl, arith}
 use Rattle.std.proofs.lemmas.Bool.Decides.{nat_tests}
 use Rattle.std.specs.Ordering.{nat_cmp, ordering_then}

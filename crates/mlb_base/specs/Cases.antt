@@ -1,7 +1,7 @@
 -- Tables of cases, of which the first that holds is decisive, and the first item of a list that something holds of.
 use Rattle.std.specs.Prelude.{◌≡◌, ◌⊎◌, List, [], ◌∷◌, ⊤}
 
--- what is answered where the case holds, and what is left to the cases behind it where it doesn't
+-- what is answered where the case holds, and what is left to the cases after it where it doesn't
 abbrev pub Case : Type 0 → Type 0 → Type 0 → Type 0
 Case holds answer behind = (holds × answer) ⊎ ((¬ holds) × behind)
 

@@ -1,4 +1,4 @@
-//! Want of memory, and copies that may find none.
+//! Running out of memory, and copies that may find none.
 ghost use Rattle.std.specs.Prelude.{◌≡◌, IfOk};
 
 use std::alloc::{AllocError, AllocFailed};

@@ -19,7 +19,7 @@ counts_same name failed names none = record {
   others = λ other differs. refl;
 }
 
--- a want of memory is no failed opening
+-- a running out of memory is no failed opening
 pub counts_memory : {T : Type 0} (name : Option (List ℕ)) (names : List (List ℕ)) → CountsFault name (IsErrOf {T = T} (Err NoMemory) Failed) names names
 counts_memory name names = counts_same name _ names (λ e. absurd (cc))
 

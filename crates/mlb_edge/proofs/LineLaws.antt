@@ -9,7 +9,7 @@ use Rattle.mlb_edge.specs.Rows.{RawLine, lengthened, raw_lines, size_of, is_blan
 use Rattle.mlb_edge.specs.InputLines.{Input, Ending, Whole, LongLine, LongInput, no_lines, with_line, input_from, input_of, numbered}
 use Rattle.mlb_edge.specs.Laws.{total, AreEnded, IsCutInto, KeepLimits, IsRead}
 
--- behind so many bytes and lines, the lines before the first that breaks a limit
+-- after so many bytes and lines, the lines before the first that breaks a limit
 record StopsBehind (passed number : ℕ) (raws : List RawLine) (lines : List Line) (Breaks : ℕ → ℕ → RawLine → Type 0) : Type 0 where
   before : List RawLine
   first : RawLine

@@ -1,4 +1,4 @@
--- A device behind an adapter.
+-- A device after an adapter.
 use Rattle.std.specs.Prelude.{ℕ, List, take, Option, Result, MatchResult}
 use Rattle.std.specs.Io.KnownBytes.{Appends}
 

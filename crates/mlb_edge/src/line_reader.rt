@@ -1,7 +1,9 @@
 //! Reads the lines of a source, one after the other.
 
-ghost use Rattle.std.specs.Prelude.{◌≡◌, ◌≢◌, true, false, IsOk, ◌≤◌, ◌<◌, ◌+◌, ◌^◌, ◌++◌, ◌∷◌, ℕ, List, [], length, slice_index, IfSome, IfNone};
-ghost use Rattle.std.specs.Prelude.{OnSome, ◌⊎◌, IfOk, OnOk, IfErr, OnErr, IsErrOf, IsTrue, MatchResult, take, drop, slice_range, ◌-◌, vec_len};
+ghost use Rattle.std.specs.Prelude.{◌≡◌, ◌≢◌, true, false, IsOk, ◌≤◌, ◌<◌, ◌+◌, ◌^◌, ◌++◌, ◌∷◌, ℕ};
+ghost use Rattle.std.specs.Prelude.{List, [], length, slice_index, IfSome, IfNone};
+ghost use Rattle.std.specs.Prelude.{OnSome, ◌⊎◌, IfOk, OnOk, IfErr, OnErr, IsErrOf, IsTrue};
+ghost use Rattle.std.specs.Prelude.{MatchResult, take, drop, slice_range, ◌-◌, vec_len};
 ghost use Rattle.mlb_edge.specs.Causes.{HasCause, Rose};
 ghost use Rattle.std.specs.Io.KnownBytes.{Consumes, IsAtEnd, Keeps};
 ghost use Rattle.mlb_edge.specs.Rows.{is_blank, CutsRow, HasNoNewline};
@@ -43,13 +45,16 @@ fn is_blank(bytes: &[u8]) -> bool
         .all(|b| *b == b' ' || *b == b'\t' || *b == b'\r')
 }
 
-/// Reads the lines of a source, one after the other. A line of blanks, tabs and 0x0D alone is passed over and counted.
+/// Reads the lines of a source, one after the other. A line of blanks, tabs and 0x0D alone is
+/// ignored and counted.
 ///
-/// Contracts see the bytes that were read and not yet passed, how many were passed, and the number of the last line.
+/// Contracts see the bytes that were read and not yet passed, how many were passed, and the number
+/// of the last line.
 #[derive(Drop)]
 pub struct LineReader {
     alloc: Global,
-    // the source is read into it, so that a line is copied once where it is moved to the front, and once as it is given
+    // the source is read into it, so that a line is copied once where it is moved to the front, and
+    // once as it is given
     buffer: Vec<u8>,
     // what stands from start to end is held
     start: usize,
@@ -87,7 +92,7 @@ fn move_to_front(buffer: &mut Vec<u8>, start: usize, end: usize)
     }
 }
 
-/// Makes room for a block behind what stands before the end.
+/// Makes room for a block after what stands before the end.
 fn make_room(buffer: &mut Vec<u8>, end: usize) -> Result<(), NoMemory>
     requires within { end ≤ vec_len buffer.old }
     requires short { end ≤ 1048576 }
@@ -101,7 +106,7 @@ fn make_room(buffer: &mut Vec<u8>, end: usize) -> Result<(), NoMemory>
     Ok(())
 }
 
-/// Reads at most a block from the source, behind what stands before the end.
+/// Reads at most a block from the source, after what stands before the end.
 fn read_behind<S: Source>(
     source: &mut S,
     buffer: &mut Vec<u8>,
@@ -117,15 +122,16 @@ fn read_behind<S: Source>(
     ensures end { IfOk result (λ n. n ≡ 0 → IsAtEnd (S.left source.new)) }
     ensures name { S.name source.new ≡ S.name source.old }
     ensures cause { HasCause (S.faults source.old) (S.faults source.new) result }
-    ensures safe { S.safe source.new ≡ S.safe source.old }
-    ensures well { S.safe source.old ≡ true → IsOk result }
+    ensures unfailing { S.unfailing source.new ≡ S.unfailing source.old }
+    ensures well { S.unfailing source.old ≡ true → IsOk result }
 {
     source.read(&mut buffer[end..end + BLOCK])
 }
 
 impl LineReader {
     ghost use Rattle.mlb_edge.specs.Reading.{Reading};
-    ghost use Rattle.mlb_edge.specs.InputLines.{passed_over, Follows, to_come, EndsAs, Whole, LongLine, LongInput, HoldsLine, Passes};
+    ghost use Rattle.mlb_edge.specs.InputLines.{passed_over, Follows, to_come, EndsAs, Whole};
+    ghost use Rattle.mlb_edge.specs.InputLines.{LongLine, LongInput, HoldsLine, Passes};
     ghost use Rattle.mlb_edge.specs.Limits.{IsLimit};
 
     /// A reader that has read nothing yet.
@@ -143,26 +149,32 @@ impl LineReader {
         })
     }
 
-    /// The next line that isn't blank, or `None` where no more is left. The source is read only while no whole line
-    /// is held. After a refusal the lines still to come are the same, so that the call can be made again.
+    /// The next line that isn't blank, or `None` where no more is left. The source is read only
+    /// while no whole line is held. After a refusal the lines still to come are the same, so that
+    /// the call can be made again.
     pub fn next_line<S: Source>(&mut self, source: &mut S) -> Result<Option<Line>, LineEnd>
         ensures line { IfOk result (λ next. IfSome next (λ line.
-            Follows (to_come self.old (S.left source.old)) (line ∷ []) (to_come self.new (S.left source.new)))) }
+            Follows (to_come self.old (S.left source.old)) (line ∷ [])
+            (to_come self.new (S.left source.new)))) }
         ensures number { IfOk result (λ next. IfSome next (λ line. line.number ≡ self.new.number)) }
         ensures near { IfOk result (λ next. OnSome next
             ((self.old.passed < self.new.passed) × (self.new.passed ≤ 2 ^ 40))) }
 
         // At the end of the input no line is left, and nothing is held.
-        ensures end { IfOk result (λ next. IfNone next (EndsAs (to_come self.old (S.left source.old)) Whole)) }
-        ensures at_end { IfOk result (λ next. IfNone next ((self.new.held ≡ []) × IsAtEnd (S.left source.new))) }
+        ensures end { IfOk result (λ next. IfNone next
+            (EndsAs (to_come self.old (S.left source.old)) Whole)) }
+        ensures at_end { IfOk result (λ next. IfNone next
+            ((self.new.held ≡ []) × IsAtEnd (S.left source.new))) }
 
         ensures line_limit { IfErr result (λ e. (number : ℕ) → e ≡ LineEnd.LineLimit number
             → EndsAs (to_come self.old (S.left source.old)) (LongLine number)) }
         ensures input_limit { IsErrOf result LineEnd.InputLimit
             → EndsAs (to_come self.old (S.left source.old)) LongInput }
-        ensures read_fault { IsErrOf result LineEnd.ReadFault → Rose (S.faults source.old) (S.faults source.new) }
+        ensures read_fault { IsErrOf result LineEnd.ReadFault
+            → Rose (S.faults source.old) (S.faults source.new) }
         ensures err { OnErr result
-            (Follows (to_come self.old (S.left source.old)) [] (to_come self.new (S.left source.new))) }
+            (Follows (to_come self.old (S.left source.old)) []
+            (to_come self.new (S.left source.new))) }
 
         // No byte is lost, and where reading failed no whole line is held.
         ensures passes { Passes self.old self.new (S.left source.old) (S.left source.new) }
@@ -176,9 +188,9 @@ impl LineReader {
         ensures later { S.faults source.old ≤ S.faults source.new }
         ensures name { S.name source.new ≡ S.name source.old }
 
-        // A safe source stays one, and never fails.
-        ensures safe { S.safe source.new ≡ S.safe source.old }
-        ensures unsafe_read { IsErrOf result LineEnd.ReadFault → S.safe source.old ≡ false }
+        // An unfailing source stays one, and never fails.
+        ensures unfailing { S.unfailing source.new ≡ S.unfailing source.old }
+        ensures unsafe_read { IsErrOf result LineEnd.ReadFault → S.unfailing source.old ≡ false }
     {
         let mut is_last = false;
         loop {
@@ -199,8 +211,8 @@ impl LineReader {
         }
     }
 
-    /// How many bytes the first line has, and how many it takes with its 0x0A. If nothing follows what is held, the
-    /// last line may lack its 0x0A.
+    /// How many bytes the first line has, and how many it takes with its 0x0A. If nothing follows
+    /// what is held, the last line may lack its 0x0A.
     fn first_row(&mut self, is_last: bool) -> Option<(usize, usize)>
         ensures row { IfSome result (λ row. CutsRow self.old.held is_last row.0 row.1) }
         ensures none { IfNone result (HasNoNewline self.old.held) }
@@ -266,8 +278,8 @@ impl LineReader {
         })
     }
 
-    /// Reads a block from the source, which is done only where no whole line is held. `Ok(0)` says that it has no more
-    /// bytes.
+    /// Reads a block from the source, which is done only where no whole line is held. `Ok(0)` says
+    /// that it has no more bytes.
     fn fill<S: Source>(&mut self, source: &mut S) -> Result<usize, LineEnd>
         requires none_held { HasNoNewline self.old.held }
         requires short { length self.old.held ≤ 1048576 }
@@ -275,12 +287,14 @@ impl LineReader {
             × (length read ≡ n) × Consumes (S.left source.old) (S.left source.new) read) }
         ensures end { IfOk result (λ n. n ≡ 0 → IsAtEnd (S.left source.new)) }
         ensures same { (self.new.passed ≡ self.old.passed) × (self.new.number ≡ self.old.number) }
-        ensures err { OnErr result ((self.new ≡ self.old) × Keeps (S.left source.old) (S.left source.new)) }
+        ensures err { OnErr result ((self.new ≡ self.old)
+            × Keeps (S.left source.old) (S.left source.new)) }
         ensures name { S.name source.new ≡ S.name source.old }
         ensures later { S.faults source.old ≤ S.faults source.new }
-        ensures cause { IsErrOf result LineEnd.ReadFault → Rose (S.faults source.old) (S.faults source.new) }
-        ensures safe { S.safe source.new ≡ S.safe source.old }
-        ensures unsafe_read { IsErrOf result LineEnd.ReadFault → S.safe source.old ≡ false }
+        ensures cause { IsErrOf result LineEnd.ReadFault
+            → Rose (S.faults source.old) (S.faults source.new) }
+        ensures unfailing { S.unfailing source.new ≡ S.unfailing source.old }
+        ensures unsafe_read { IsErrOf result LineEnd.ReadFault → S.unfailing source.old ≡ false }
         ensures fault { IfErr result (λ e. (e ≡ LineEnd.ReadFault) ⊎ (e ≡ LineEnd.NoMemory)) }
     {
         move_to_front(&mut self.buffer, self.start, self.end);
@@ -327,8 +341,8 @@ impl LineReader {
     }
 }
 
-/// A law: the lines that are read are all the lines of the text that aren't blank, with their numbers, up to the first
-/// line of all that breaks a limit, which is the one that the fault names.
+/// A law: the lines that are read are all the lines of the text that aren't blank, with their
+/// numbers, up to the first line of all that breaks a limit, which is the one that the fault names.
 pub fn reads_all_lines()
     ensures lines { IsAllLines }
     ensures cut { IsCut }

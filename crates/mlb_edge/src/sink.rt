@@ -19,16 +19,16 @@ pub trait Sink {
     /// How often writing has failed.
     ghost faults: { Self → ℕ };
 
-    /// Appends a front part of the piece, at least one byte of a piece that isn't empty, and gives its length. Where
-    /// writing fails nothing was appended.
+    /// Appends a front part of the piece, at least one byte of a piece that isn't empty, and gives
+    /// its length. Where writing fails nothing was appended.
     fn write(&mut self, piece: &[u8]) -> Result<usize, WriteFailed>
         ensures bound { IfOk result (TakesSome piece.now) }
         ensures bytes { WriteGrows (written self.old) (written self.new) result piece.now }
         ensures cause { HasCause (faults self.old) (faults self.new) result };
 }
 
-/// Writes the whole piece, in as many writes as the sink wants. Where one fails, a part of the piece was written that
-/// isn't all of it.
+/// Writes the whole piece, in as many writes as the sink wants. Where one fails, a part of the
+/// piece was written that isn't all of it.
 pub fn put_all<K: Sink>(out: &mut K, piece: &[u8]) -> Result<(), WriteFailed>
     ensures ok { OnOk result (Grows (K.written out.old) (K.written out.new) piece.now) }
     ensures err { OnErr result (GrowsInPart (K.written out.old) (K.written out.new) piece.now) }

@@ -24,15 +24,16 @@ pub trait Source {
     ghost faults: { Self → ℕ };
 
     /// It is known that no read fails. No read changes this.
-    ghost safe: { Self → Bool };
+    ghost unfailing: { Self → Bool };
 
-    /// Reads into the front of `buf`. `Ok(n)` gives the first n bytes of what is left, and `Ok(0)` for a buffer that
-    /// isn't empty says that nothing is left. Where reading fails, what is left stays as it was.
+    /// Reads into the front of `buf`. `Ok(n)` gives the first n bytes of what is left, and `Ok(0)`
+    /// for a buffer that isn't empty says that nothing is left. Where reading fails, what is left
+    /// stays as it was.
     fn read(&mut self, buf: &mut [u8]) -> Result<usize, ReadFailed>
         ensures bound { ReadsAtMost result buf.new }
         ensures bytes { ReadConsumes (left self.old) (left self.new) result buf.new }
         ensures name { name self.new ≡ name self.old }
         ensures cause { HasCause (faults self.old) (faults self.new) result }
-        ensures safe { safe self.new ≡ safe self.old }
-        ensures well { safe self.old ≡ true → IsOk result };
+        ensures unfailing { unfailing self.new ≡ unfailing self.old }
+        ensures well { unfailing self.old ≡ true → IsOk result };
 }

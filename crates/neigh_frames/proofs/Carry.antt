@@ -5,7 +5,7 @@ use Rattle.std.specs.List.{list_all}
 use Rattle.std.proofs.lemmas.Bool.{and_parts, ltb-true}
 use Rattle.neigh_frames.specs.Checksum.{plus, sum_from}
 
--- each number is a byte, and so is the 0 that is read behind the last
+-- each number is a byte, and so is the 0 that is read after the last
 abbrev pub AreBytes : List ℕ → Type 0
 AreBytes bytes = (i : ℕ) → get_or bytes i 0 < 256
 
@@ -53,7 +53,7 @@ sum_from-below sum (last ∷ []) s b = plus-below sum (last * 256) s (high-below
 sum_from-below sum (high ∷ low ∷ rest) s b =
     sum_from-below (plus sum (high * 256 + low)) rest (plus-below sum (high * 256 + low) s (word-below high low (b 0) (b 1))) (λ i. b (suc (suc i)))
 
--- a number that is added before the bytes may be added behind them
+-- a number that is added before the bytes may be added after them
 pub sum_from-plus : (sum more : ℕ) (bytes : List ℕ) → sum < 0x1_0000 → more < 0x1_0000 → AreBytes bytes
     → sum_from (plus sum more) bytes ≡ plus (sum_from sum bytes) more
 sum_from-plus sum more [] s m b = refl

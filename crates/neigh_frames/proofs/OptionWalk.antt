@@ -7,7 +7,7 @@ use Rattle.std.specs.Option.{option_map, option_or}
 use Rattle.neigh_frames.specs.declared.options.Sender.{Sender}
 use Rattle.neigh_frames.specs.Options.{NdpOption, states_source, states_hardware, options_behind, options_of, with_option, with_options}
 
--- The bytes of an option that has begun are passed by.
+-- The bytes of an option that has begun are ignored.
 pub options_behind-skip : (left : ℕ) (bytes : List ℕ) → left ≤ length bytes → options_behind left bytes ≡ options_of (drop left bytes)
 options_behind-skip zero bytes there = refl
 options_behind-skip (suc left) [] there = absurd (omega arith)

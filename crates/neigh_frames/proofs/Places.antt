@@ -7,7 +7,7 @@ use Rattle.neigh_frames.specs.Checksum.{ones_sum, with_pseudo_header}
 use Rattle.neigh_frames.specs.Advertisement.{header}
 use Rattle.neigh_frames.specs.Solicitation.{HasRightChecksum, message_of, payload_length}
 
--- what follows the first part begins behind it
+-- what follows the first part begins after it
 drop-front : (front back : List ℕ) (n k : ℕ) → length front ≡ n → drop (n + k) (front ++ back) ≡ drop k back
 drop-front front back n k is = rw (sym is) (drop-append-add front back k)
 

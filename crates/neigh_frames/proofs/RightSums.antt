@@ -22,7 +22,7 @@ module _ (mac target destination : List ℕ) (flags : ℕ) (m : length mac ≡ 6
   long : (checksum : ℕ) → length (advertisement flags target mac checksum) ≡ 32
   long checksum = omega (arith, length-append (target ++ 2 ∷ 1 ∷ []) mac, length-append target (2 ∷ 1 ∷ []))
 
-  -- what is before and behind the checksum
+  -- what is before and after the checksum
   abbrev before : List ℕ
   before = (target ++ destination) ++ (to_be_bytes w32 32 ++ ((0 ∷ 0 ∷ 0 ∷ 58 ∷ []) ++ (136 ∷ 0 ∷ [])))
 

@@ -16,7 +16,7 @@ sum_from sum (high ∷ low ∷ rest) = sum_from (plus sum (high * 256 + low)) re
 abbrev pub ones_sum : List ℕ → ℕ
 ones_sum bytes = sum_from 0 bytes
 
--- a message behind its pseudo header: the source and the destination, its length, three zeros and the next header 58 (RFC 8200,
+-- a message after its pseudo header: the source and the destination, its length, three zeros and the next header 58 (RFC 8200,
 -- section 8.1)
 abbrev pub with_pseudo_header : List ℕ → List ℕ → List ℕ
 with_pseudo_header addresses message =

@@ -4,12 +4,12 @@ use Rattle.std.specs.List.{list_any, find}
 use Rattle.std.specs.Option.{option_map, option_or}
 use Rattle.neigh_frames.specs.declared.options.Sender.{Sender}
 
--- an option: its type, and the bytes behind type and length
+-- an option: its type, and the bytes after type and length
 pub record NdpOption : Type 0 where
   pub kind : ℕ
   pub body : List ℕ
 
--- The options in the bytes, behind the bytes that an option which has begun still has. An option is a type, a length in units of
+-- The options in the bytes, after the bytes that an option which has begun still has. An option is a type, a length in units of
 -- eight bytes, which isn't 0, and as many bytes in all; the last ends where the bytes end.
 abbrev pub options_behind : ℕ → List ℕ → Option (List NdpOption)
 options_behind (suc left) [] = None

@@ -1,14 +1,16 @@
 //! Neighbor advertisements, as they are written.
 ghost use Rattle.std.specs.Prelude.{◌≡◌, ◌≤◌, length};
 ghost use Rattle.neigh_frames.specs.Solicitation.{HasRightChecksum};
-ghost use Rattle.neigh_frames.specs.Advertisement.{advertisement, checksum_of, ndp_reply, reply_to, to_all_nodes};
+ghost use Rattle.neigh_frames.specs.Advertisement.{advertisement, checksum_of, ndp_reply, reply_to};
+ghost use Rattle.neigh_frames.specs.Advertisement.{to_all_nodes};
 
 use crate::checksum::message_sum;
 use crate::filling::Filling;
 use crate::options::Sender;
 use crate::solicitation::is_unspecified;
 
-/// The EtherType, and the IPv6 header before its addresses: version 6, 32 bytes, next header ICMPv6, hop limit 255.
+/// The EtherType, and the IPv6 header before its addresses: version 6, 32 bytes, next header
+/// ICMPv6, hop limit 255.
 const HEADER: [u8; 10] = [0x86, 0xdd, 0x60, 0, 0, 0, 0, 32, 58, 255];
 
 const ALL_NODES: [u8; 16] = [0xff, 0x02, 0, 0, 0, 0, 0, 0, 0, 0, 0, 0, 0, 0, 0, 1];

@@ -4,7 +4,8 @@ ghost use Rattle.std.specs.Option.{option_copied};
 ghost use Rattle.l2_elect.specs.Kept.{AreKnown};
 ghost use Rattle.l2_elect.specs.Listening.{listens_of};
 ghost use Rattle.ip_ranges.specs.declared.family.Family.TheVariants.{V4};
-ghost use Rattle.neigh_frames.specs.Arp.{IsArpAnswer, is_arp_request, arp_answer_of, arp_reply, unasked_arp_of, address_at};
+ghost use Rattle.neigh_frames.specs.Arp.{IsArpAnswer, is_arp_request, arp_answer_of, arp_reply};
+ghost use Rattle.neigh_frames.specs.Arp.{unasked_arp_of, address_at};
 
 use crate::filling::Filling;
 use ip_ranges::{Address, Family};
@@ -19,9 +20,10 @@ const REPLY: [u8; 10] = [0x08, 0x06, 0x00, 0x01, 0x08, 0x00, 6, 4, 0x00, 2];
 
 const BROADCAST: [u8; 6] = [0xff; 6];
 
-/// The ARP reply that answers the request in an Ethernet frame, where the frame has one for an IPv4 address for which the node
-/// listens on the interface (RFC 826). `mac` is the hardware address of the interface. The frame's Ethernet destination isn't
-/// looked at, and bytes behind the first 42 are padding. VLAN tags have no answer. It takes no memory.
+/// The ARP reply that answers the request in an Ethernet frame, where the frame has one for an IPv4
+/// address for which the node listens on the interface (RFC 826). `mac` is the hardware address of
+/// the interface. The frame's Ethernet destination isn't looked at, and bytes after the first 42
+/// are padding. VLAN tags have no answer. It takes no memory.
 pub fn arp_answer(
     view: &View,
     node: &str,
@@ -29,13 +31,17 @@ pub fn arp_answer(
     mac: &[u8; 6],
     frame: &[u8],
 ) -> Option<[u8; 42]>
-    ensures value { result ≡ arp_answer_of (listens_of view.now node.now interface.now) mac.now frame.now }
-    ensures meaning { (answer : List ℕ) → (result ≡ Some answer) ↔ IsArpAnswer view.now node.now interface.now mac.now frame.now answer }
+    ensures value { result ≡ arp_answer_of
+        (listens_of view.now node.now interface.now) mac.now frame.now }
+    ensures meaning { (answer : List ℕ)
+        → (result ≡ Some answer) ↔ IsArpAnswer view.now node.now interface.now mac.now frame.now
+        answer }
 {
     arp_answer_known(view, None, node, interface, mac, frame)
 }
 
-/// The same, by the announcers of the view where they are known: then no election is held. It takes no memory.
+/// The same, by the announcers of the view where they are known: then no election is held. It takes
+/// no memory.
 pub fn arp_answer_known(
     view: &View,
     announcers: Option<&Announcers>,
@@ -45,8 +51,11 @@ pub fn arp_answer_known(
     frame: &[u8],
 ) -> Option<[u8; 42]>
     requires { AreKnown (option_copied announcers) view.now }
-    ensures value { result ≡ arp_answer_of (listens_of view.now node.now interface.now) mac.now frame.now }
-    ensures meaning { (answer : List ℕ) → (result ≡ Some answer) ↔ IsArpAnswer view.now node.now interface.now mac.now frame.now answer }
+    ensures value { result ≡ arp_answer_of
+        (listens_of view.now node.now interface.now) mac.now frame.now }
+    ensures meaning { (answer : List ℕ)
+        → (result ≡ Some answer) ↔ IsArpAnswer view.now node.now interface.now mac.now frame.now
+        answer }
 {
     answer_if_asked(view, announcers, node, interface, mac, frame)
 }
@@ -61,7 +70,8 @@ fn answer_if_asked(
     frame: &[u8],
 ) -> Option<[u8; 42]>
     requires { AreKnown (option_copied announcers) view.now }
-    ensures { result ≡ arp_answer_of (listens_of view.now node.now interface.now) mac.now frame.now }
+    ensures { result ≡ arp_answer_of
+        (listens_of view.now node.now interface.now) mac.now frame.now }
 {
     if !is_request(frame) {
         return None;
@@ -72,8 +82,9 @@ fn answer_if_asked(
     Some(reply(mac, &frame[38..42], &frame[22..28], &frame[28..32]))
 }
 
-/// The ARP reply to all stations that nobody asked for, by which they are told that `mac` has the IPv4 address (RFC 826): its target
-/// is the broadcast address, and the same IPv4 address. It takes no memory.
+/// The ARP reply to all stations that nobody asked for, by which they are told that `mac` has the
+/// IPv4 address (RFC 826): its target is the broadcast address, and the same IPv4 address. It takes
+/// no memory.
 #[tactic(auto, unfolding(crate::specs::Arp::unasked_arp_of))]
 pub fn unasked_arp(mac: &[u8; 6], address: &Address) -> [u8; 42]
     requires { address.now.family ≡ V4 }

@@ -1,6 +1,7 @@
 //! Checksums.
 ghost use Rattle.std.specs.Prelude.{◌≡◌, ◌<◌, ◌^◌, length};
-ghost use Rattle.neigh_frames.specs.Checksum.{plus as sum_of, sum_from, ones_sum, with_pseudo_header};
+ghost use Rattle.neigh_frames.specs.Checksum.{plus as sum_of, sum_from, ones_sum};
+ghost use Rattle.neigh_frames.specs.Checksum.{with_pseudo_header};
 
 /// The ones' complement sum of two 16-bit numbers: the carry comes back in.
 fn plus(sum: u16, word: u16) -> u16

@@ -31,7 +31,7 @@ impl<const N: usize> Filling<N> {
         }
     }
 
-    /// Adds bytes behind those that are there.
+    /// Adds bytes after those that are there.
     pub fn put(&mut self, bytes: &[u8])
         requires { length self.old + length bytes.now ≤ N }
         ensures { self.new ≡ self.old ++ bytes.now }

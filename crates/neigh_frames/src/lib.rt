@@ -1,5 +1,6 @@
-//! Answers to ARP requests and neighbor solicitations, gratuitous ARP and unsolicited Neighbor Advertisements: Ethernet frames of fixed sizes, which take no
-//! memory. Numbers in frames are big-endian, and addresses stand as they are sent.
+//! Answers to ARP requests and neighbor solicitations, gratuitous ARP and unsolicited Neighbor
+//! Advertisements: Ethernet frames of fixed sizes, which take no memory. Numbers in frames are
+//! big-endian, and addresses stand as they are sent.
 #![tactic(auto)]
 
 mod advertisement;

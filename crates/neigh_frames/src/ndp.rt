@@ -6,7 +6,8 @@ ghost use Rattle.l2_elect.specs.Kept.{AreKnown};
 ghost use Rattle.l2_elect.specs.Listening.{listens_of};
 ghost use Rattle.neigh_frames.specs.Solicitation.{HasRightChecksum, payload_length};
 ghost use Rattle.neigh_frames.specs.Advertisement.{unasked_ndp_of};
-ghost use Rattle.neigh_frames.specs.Ndp.{IsNdpAnswer, answer_of, answer_to, ipv6_address, is_asked, ndp_answer_of};
+ghost use Rattle.neigh_frames.specs.Ndp.{IsNdpAnswer, answer_of, answer_to, ipv6_address, is_asked};
+ghost use Rattle.neigh_frames.specs.Ndp.{ndp_answer_of};
 
 use crate::advertisement::{reply_to, to_all_nodes};
 use crate::options::{Sender, sender_of};
@@ -17,11 +18,12 @@ use speaker_view::View;
 
 const OVERRIDE: u8 = 0x20;
 
-/// The neighbor advertisement that answers the solicitation in an Ethernet frame, where the frame has a valid one for an address
-/// for which the node listens on the interface (RFC 4861, sections 4.3, 4.4, 7.1.1, 7.2.3 and 7.2.4). The Router and Override
-/// flags are clear, the Solicited flag is set where the solicitation has a source address, and `mac` is the hardware address of
-/// the interface. The frame's Ethernet destination isn't looked at, and bytes behind the IPv6 packet are padding. Extension headers
-/// and VLAN tags have no answer. It takes no memory.
+/// The neighbor advertisement that answers the solicitation in an Ethernet frame, where the frame
+/// has a valid one for an address for which the node listens on the interface (RFC 4861, sections
+/// 4.3, 4.4, 7.1.1, 7.2.3 and 7.2.4). The Router and Override flags are clear, the Solicited flag
+/// is set where the solicitation has a source address, and `mac` is the hardware address of the
+/// interface. The frame's Ethernet destination isn't looked at, and bytes after the IPv6 packet are
+/// padding. Extension headers and VLAN tags have no answer. It takes no memory.
 pub fn ndp_answer(
     view: &View,
     node: &str,
@@ -29,14 +31,18 @@ pub fn ndp_answer(
     mac: &[u8; 6],
     frame: &[u8],
 ) -> Option<[u8; 86]>
-    ensures value { result ≡ ndp_answer_of (listens_of view.now node.now interface.now) mac.now frame.now }
-    ensures meaning { (answer : List ℕ) → (result ≡ Some answer) ↔ IsNdpAnswer view.now node.now interface.now mac.now frame.now answer }
+    ensures value { result ≡ ndp_answer_of
+        (listens_of view.now node.now interface.now) mac.now frame.now }
+    ensures meaning { (answer : List ℕ)
+        → (result ≡ Some answer) ↔ IsNdpAnswer view.now node.now interface.now mac.now frame.now
+        answer }
     ensures checksum { IfSome result HasRightChecksum }
 {
     ndp_answer_known(view, None, node, interface, mac, frame)
 }
 
-/// The same, by the announcers of the view where they are known: then no election is held. It takes no memory.
+/// The same, by the announcers of the view where they are known: then no election is held. It takes
+/// no memory.
 pub fn ndp_answer_known(
     view: &View,
     announcers: Option<&Announcers>,
@@ -46,8 +52,11 @@ pub fn ndp_answer_known(
     frame: &[u8],
 ) -> Option<[u8; 86]>
     requires { AreKnown (option_copied announcers) view.now }
-    ensures value { result ≡ ndp_answer_of (listens_of view.now node.now interface.now) mac.now frame.now }
-    ensures meaning { (answer : List ℕ) → (result ≡ Some answer) ↔ IsNdpAnswer view.now node.now interface.now mac.now frame.now answer }
+    ensures value { result ≡ ndp_answer_of
+        (listens_of view.now node.now interface.now) mac.now frame.now }
+    ensures meaning { (answer : List ℕ)
+        → (result ≡ Some answer) ↔ IsNdpAnswer view.now node.now interface.now mac.now frame.now
+        answer }
     ensures checksum { IfSome result HasRightChecksum }
 {
     answer_if_asked(view, announcers, node, interface, mac, frame)
@@ -63,7 +72,8 @@ fn answer_if_asked(
     frame: &[u8],
 ) -> Option<[u8; 86]>
     requires { AreKnown (option_copied announcers) view.now }
-    ensures value { result ≡ ndp_answer_of (listens_of view.now node.now interface.now) mac.now frame.now }
+    ensures value { result ≡ ndp_answer_of
+        (listens_of view.now node.now interface.now) mac.now frame.now }
     ensures checksum { IfSome result HasRightChecksum }
 {
     if !is_asked(view, announcers, node, interface, frame) {
@@ -72,8 +82,9 @@ fn answer_if_asked(
     answer(mac, frame)
 }
 
-/// The neighbor advertisement to all nodes that nobody asked for, by which they are told that `mac` has the IPv6 address: the
-/// Override flag alone is set (RFC 4861, sections 4.4 and 7.2.6). It takes no memory.
+/// The neighbor advertisement to all nodes that nobody asked for, by which they are told that `mac`
+/// has the IPv6 address: the Override flag alone is set (RFC 4861, sections 4.4 and 7.2.6). It
+/// takes no memory.
 pub fn unasked_ndp(mac: &[u8; 6], address: &Address) -> [u8; 86]
     requires { address.now.family ≡ V6 }
     ensures value { result ≡ unasked_ndp_of mac.now address.now.number }

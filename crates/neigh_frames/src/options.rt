@@ -12,7 +12,8 @@ pub(crate) struct Sender {
     pub hardware: Option<[u8; 6]>,
 }
 
-/// What the options say, or `None` where they aren't whole: one has the length 0, or the last doesn't end where the bytes end.
+/// What the options say, or `None` where they aren't whole: one has the length 0, or the last
+/// doesn't end where the bytes end.
 pub(crate) fn sender_of(bytes: &[u8]) -> Option<Sender>
     ensures { result ≡ option_map sender_in (options_of bytes.now) }
 {

@@ -1,7 +1,9 @@
 //! Neighbor solicitations, as they are read.
 ghost use Rattle.std.specs.Prelude.{◌≡◌, ◌+◌, ◌≤◌, IsTrue, length};
-ghost use Rattle.neigh_frames.specs.Solicitation.{payload_length, has_message, is_solicitation, has_right_checksum};
-ghost use Rattle.neigh_frames.specs.Solicitation.{is_unspecified, is_to_solicited_node, has_valid_source, solicited_node_of};
+ghost use Rattle.neigh_frames.specs.Solicitation.{payload_length, has_message, is_solicitation};
+ghost use Rattle.neigh_frames.specs.Solicitation.{has_right_checksum};
+ghost use Rattle.neigh_frames.specs.Solicitation.{is_unspecified, is_to_solicited_node};
+ghost use Rattle.neigh_frames.specs.Solicitation.{has_valid_source, solicited_node_of};
 
 use crate::checksum::message_sum;
 use crate::filling::Filling;

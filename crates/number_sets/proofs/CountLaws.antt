@@ -170,7 +170,7 @@ past-none [] i e = omega arith
 past-none (x ∷ xs) zero e = absurd (cc)
 past-none (x ∷ xs) (suc i) e = let rest = past-none xs i e in omega (arith, rest)
 
--- ---- counts that are taken and put behind others
+-- ---- counts that are taken and put after others
 pub length-taken : (before : List ℕ) (i : ℕ) → i ≤ length before → length (take i before) ≡ i
 length-taken before zero within = refl
 length-taken [] (suc i) within = absurd (omega (arith, within))
@@ -332,7 +332,7 @@ module _ (a b : ℕ → Bool) (runs : List Run) (low index : ℕ) (up : IsLastUp
         (ends-ascend 0 runs up.apart k i d (omega (arith, below, last)) (slice_get_within runs i r e)) in
         omega (arith, ends, past)
 
-    -- where the run has none from the low end on, none comes behind it
+    -- where the run has none from the low end on, none comes after it
     module _ (none : (m : ℕ) → low ≤ m → r.first ≤ m → m ≤ r.last → beyond m ≡ false) where
       ahead-or_in : (m : ℕ) → low ≤ m → m ≤ r.last → beyond m ≡ false
       ahead-or_in m from to = ⊎_elim (λ below. beyond-ahead m from below) (λ upto. none m from upto to) (cases_lt m r.first)

@@ -44,7 +44,7 @@ cut-out : (n f l m : ℕ) (h : Bool) → f < n → n < l → (m ≡ n → h ≡ 
     → ((leb f m && leb m (n - 1)) || ((leb (n + 1) m && leb m l) || h)) ≡ cond (eqb m n) false ((leb f m && leb m l) || h)
 cut-out n f l m h less more none = grind (arith, nat_tests)
 
--- edits of a list, each in front of what stands behind the index
+-- edits of a list, each in front of what stands after the index
 joined : (runs : List Run) (i : ℕ) (v : Run) → i < length runs → remove (set runs i v) (i + 1) ≡ take i runs ++ v ∷ drop (suc (suc i)) runs
 joined [] i v within = absurd (omega (arith, within))
 joined (x ∷ xs) zero v within = refl
@@ -82,7 +82,7 @@ none-after n low r rs e up =
     or_from (is_in_run n r) (has_number rs n) (and_right (leb r.first n) (leb n r.last) (lt-leb n r.last (omega (arith, e))))
     (none-below (r.last + 2) rs n up.2 (omega (arith, e)))
 
--- a number behind the first run, which doesn't touch the next
+-- a number after the first run, which doesn't touch the next
 grown-last : (n low : ℕ) (r : Run) (rs : List Run) → n ≡ r.last + 1 → AreRunsFrom low (r ∷ rs) → AreRunsFrom (n + 2) rs
     → IsSetTo low n true (r ∷ rs) (run r.first n ∷ rs)
 grown-last n low r rs e up behind =
@@ -215,7 +215,7 @@ module _ (n : ℕ) (runs : List Run) (i : ℕ) (found : IsFound (n - 1) runs i) 
           (put-at r (run r.first n ∷ drop (suc i) runs) e
           (λ l from all. grown-last n l r (drop (suc i) runs) (omega (arith, ends)) all far))
 
-      -- no run stands behind, or one that doesn't touch the number
+      -- no run stands after, or one that doesn't touch the number
       pub put-last-end : slice_get runs (i + 1) ≡ None → IsSetTo 0 n true runs (set runs i (run r.first n))
       put-last-end none =
           let one : i + 1 ≡ suc i = omega arith in

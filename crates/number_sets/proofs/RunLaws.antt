@@ -54,7 +54,7 @@ has-by : (e flag here h g : Bool) → g ≡ cond e flag h → (e ≡ true → he
 has-by true flag here h g is out = rw (out refl) is
 has-by false flag here h g is out = ap (λ b. here || b) is
 
--- a change behind the runs that end below the number
+-- a change after the runs that end below the number
 pub set-behind : (n bound : ℕ) (flag : Bool) (runs new : List Run) (i low : ℕ) → bound ≤ n + 1 → low ≤ bound → i ≤ length runs
     → ((k : ℕ) (d : Run) → k < i → (get_or runs k d).last + 2 ≤ bound) → AreRunsFrom low runs
     → ((l : ℕ) → l ≤ bound → AreRunsFrom l (drop i runs) → IsSetTo l n flag (drop i runs) new)
@@ -73,7 +73,7 @@ set-behind n bound flag (r ∷ rs) new (suc i) low near less within before up ea
       counted = rw out (omega (arith, rest.counted));
     }
 
--- what stands at an index, and behind it
+-- what stands at an index, and after it
 pub drop-at : (runs : List Run) (i : ℕ) (r : Run) → slice_get runs i ≡ Some r → drop i runs ≡ r ∷ drop (suc i) runs
 drop-at [] i r e = absurd (cc)
 drop-at (x ∷ xs) zero r e = let same : x ≡ r = cc in ap (λ (y : Run). y ∷ xs) same
@@ -90,7 +90,7 @@ apart-behind low runs zero up = (low, up)
 apart-behind low [] (suc i) up = (low, tt)
 apart-behind low (r ∷ rs) (suc i) up = apart-behind (r.last + 2) rs i up.2
 
--- the run at an index and those behind it
+-- the run at an index and those after it
 pub apart-at : (runs : List Run) (i : ℕ) (r : Run) → AreRunsFrom 0 runs → slice_get runs i ≡ Some r → AreRunsFrom r.first (r ∷ drop (suc i) runs)
 apart-at runs i r up e =
     let behind = apart-behind 0 runs i up in
@@ -148,7 +148,7 @@ module _ (n : ℕ) (runs : List Run) (i : ℕ) (within : i ≤ length runs) (bef
 pub ends-before : (n : ℕ) (runs : List Run) (i : ℕ) → IsFirstFrom n runs i → (m : ℕ) → n ≤ m → (k : ℕ) (d : Run) → k < i → (get_or runs k d).last < m
 ends-before n runs i point m less k d below = let ends = point.0 k d (omega arith) below in omega (arith, ends, less)
 
--- the run at the index that was found ends at the number or behind it
+-- the run at the index that was found ends at the number or after it
 pub ends-from : (n : ℕ) (runs : List Run) (i : ℕ) (r : Run) → IsFirstFrom n runs i → slice_get runs i ≡ Some r → n ≤ r.last
 ends-from n runs i r point e =
     let ends = point.1 i r (omega arith) (slice_get_within runs i r e) in

@@ -38,7 +38,7 @@ pub record AreHeld (runs : List Run) (before : List ℕ) (count capacity : ℕ) 
 abbrev pub IsFirstFrom : ℕ → List Run → ℕ → Type 0
 IsFirstFrom n runs index = IsPartitionPoint (λ run. run.last < n) (λ run. n ≤ run.last) runs index
 
--- The index is that of the first run that ends at the number or behind it.
+-- The index is that of the first run that ends at the number or after it.
 pub record IsFound (n : ℕ) (runs : List Run) (index : ℕ) : Type 0 where
   pub apart : AreRunsFrom 0 runs
   pub point : IsFirstFrom n runs index

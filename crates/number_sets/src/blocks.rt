@@ -1,5 +1,6 @@
-//! Sets of numbers in blocks, whose edges a search may pass over.
-ghost use Rattle.std.specs.Prelude.{◌≡◌, ◌↔◌, ◌≤◌, ◌<◌, ◌+◌, ◌==◌, ◌||◌, ◌&&◌, true, false, not, IsTrue, IfSome, IfNone, OnOk};
+//! Sets of numbers in blocks, whose edges a search may skip.
+ghost use Rattle.std.specs.Prelude.{◌≡◌, ◌↔◌, ◌≤◌, ◌<◌, ◌+◌, ◌==◌, ◌||◌, ◌&&◌, true, false, not};
+ghost use Rattle.std.specs.Prelude.{IsTrue, IfSome, IfNone, OnOk};
 ghost use Rattle.number_sets.specs.Blocks.{is_edge, is_open, IsLeft};
 ghost use Rattle.number_sets.specs.Counts.{is_beyond};
 ghost use Rattle.number_sets.specs.Least.{IsLeastIn, NonePasses};
@@ -10,10 +11,12 @@ use mlb_base::NoMemory;
 use std::alloc::Global;
 use std::marker::Model;
 
-/// A set of numbers as `NumberRuns`, where a search may pass over the edges of blocks: the first and the last number of each 256.
+/// A set of numbers as `NumberRuns`, where a search may skip the edges of blocks: the first and the
+/// last number of each 256.
 ///
-/// Of a set that is made for such searches closed numbers are kept besides: its own, and the edges right behind them. Blocks that are
-/// full but for their edges are one run of these, so that a search takes the logarithm of the number of runs.
+/// Of a set that is made for such searches closed numbers are kept besides: its own, and the edges
+/// right after them. Blocks that are full but for their edges are one run of these, so that a
+/// search takes the logarithm of the number of runs.
 pub struct BlockSet {
     numbers: NumberRuns,
     closed: NumberRuns,
@@ -42,7 +45,7 @@ impl Model for BlockSet {
 }
 
 impl BlockSet {
-    /// The empty set, which takes no memory; made for searches that pass over edges, or not.
+    /// The empty set, which takes no memory; made for searches that skip edges, or not.
     pub fn new(alloc: Global, closes: bool) -> BlockSet
         ensures { has result ≡ (λ n. false) }
     {
@@ -94,7 +97,8 @@ impl BlockSet {
         self.numbers.is_empty()
     }
 
-    /// The least number from low to high that is in the set; in the logarithm of the number of runs.
+    /// The least number from low to high that is in the set; in the logarithm of the number of
+    /// runs.
     pub fn first_present(&self, low: u128, high: u128) -> Option<u128>
         ensures some { IfSome result (λ n. IsLeastIn (has self.now) low high n) }
         ensures none { IfNone result (NonePasses (has self.now) low high) }
@@ -102,8 +106,8 @@ impl BlockSet {
         self.numbers.first_present(low, high)
     }
 
-    /// The least number from low to high that is in this set and not in the other, whose numbers are all in this one; in the product
-    /// of the logarithms of the numbers of runs.
+    /// The least number from low to high that is in this set and not in the other, whose numbers
+    /// are all in this one; in the product of the logarithms of the numbers of runs.
     pub fn first_beyond(&self, fewer: &BlockSet, low: u128, high: u128) -> Option<u128>
         requires { IsLeft (has self.now) fewer.now }
         ensures some { IfSome result (λ n. IsLeastIn (is_beyond self.now fewer.now) low high n) }
@@ -112,7 +116,8 @@ impl BlockSet {
         self.numbers.first_beyond(&fewer.numbers, low, high)
     }
 
-    /// The least number from low to high that isn't in the set, and no edge where it is sought inside blocks.
+    /// The least number from low to high that isn't in the set, and no edge where it is sought
+    /// inside blocks.
     pub fn first_absent(&self, inside: bool, low: u128, high: u128) -> Option<u128>
         ensures some { IfSome result (λ n. IsLeastIn (is_open inside self.now) low high n) }
         ensures none { IfNone result (NonePasses (is_open inside self.now) low high) }
@@ -138,7 +143,7 @@ fn is_edge(number: u128) -> bool
     number % 256 == 0 || number % 256 == 255
 }
 
-/// The number behind this one, where that is an edge.
+/// The number after this one, where that is an edge.
 fn edge_behind(number: u128) -> Option<u128>
     ensures { IfSome result (λ n. is_edge n ≡ true) }
 {
@@ -146,7 +151,7 @@ fn edge_behind(number: u128) -> Option<u128>
     if is_edge(behind) { Some(behind) } else { None }
 }
 
-/// Closes the number and the edges right behind it.
+/// Closes the number and the edges right after it.
 fn close(closed: &mut NumberRuns, number: u128)
     ensures { IsLeft (λ n. is_edge n || ((n == number) || has closed.old n)) closed.new }
 {
@@ -169,7 +174,7 @@ fn put(closed: &mut NumberRuns, number: u128)
     }
 }
 
-/// Takes out the number, and the edges right behind it.
+/// Takes out the number, and the edges right after it.
 fn reopen(closed: &mut NumberRuns, number: u128)
     ensures { IsLeft (λ n. not (n == number) && has closed.old n) closed.new }
 {

@@ -1,11 +1,13 @@
 //! How many numbers stand in runs before others.
-ghost use Rattle.std.specs.Prelude.{◌≡◌, ◌≤◌, ◌<◌, ◌+◌, ◌-◌, ◌^◌, ◌++◌, ◌∷◌, [], vec_len, vec_capacity, length, take};
+ghost use Rattle.std.specs.Prelude.{◌≡◌, ◌≤◌, ◌<◌, ◌+◌, ◌-◌, ◌^◌, ◌++◌, ◌∷◌, [], vec_len};
+ghost use Rattle.std.specs.Prelude.{vec_capacity, length, take};
 ghost use Rattle.number_sets.specs.RunLists.{AreCountedTo, AreRunsFrom, count_numbers};
 
 use crate::runs::Run;
 
-/// Counts anew the numbers before each run from the index on, of which there may be more or fewer than there were; those before the
-/// earlier runs are as they were. There is room for a count for each run, so it takes no memory.
+/// Counts anew the numbers before each run from the index on, of which there may be more or fewer
+/// than there were; those before the earlier runs are as they were. There is room for a count for
+/// each run, so it takes no memory.
 pub(crate) fn recount(runs: &[Run], before: &mut Vec<usize>, index: usize)
     requires apart { AreRunsFrom 0 runs.now }
     requires fits { count_numbers runs.now ≤ vec_capacity before.old }

@@ -1,12 +1,15 @@
 //! Sets of numbers as sorted runs.
-ghost use Rattle.std.specs.Prelude.{◌≡◌, ◌↔◌, ◌≤◌, ◌<◌, ◌+◌, ◌-◌, ◌==◌, ◌||◌, ◌&&◌, true, false, not, length, take};
-ghost use Rattle.std.specs.Prelude.{slice_get, vec_len, vec_capacity, IsTrue, IsFalse, IfSome, IfNone, IsSomeAnd, OnOk};
+ghost use Rattle.std.specs.Prelude.{◌≡◌, ◌↔◌, ◌≤◌, ◌<◌, ◌+◌, ◌-◌, ◌==◌, ◌||◌, ◌&&◌, true, false};
+ghost use Rattle.std.specs.Prelude.{not, length, take};
+ghost use Rattle.std.specs.Prelude.{slice_get, vec_len, vec_capacity, IsTrue, IsFalse, IfSome};
+ghost use Rattle.std.specs.Prelude.{IfNone, IsSomeAnd, OnOk};
 ghost use Rattle.number_sets.specs.Blocks.{IsLeft};
 ghost use Rattle.number_sets.specs.Counts.{count_below, is_beyond};
 ghost use Rattle.std.specs.List.{insert};
 ghost use Rattle.std.specs.List.Sorted.{IsPartitionPoint};
 ghost use Rattle.number_sets.specs.Least.{IsLeastIn, NonePasses};
-ghost use Rattle.number_sets.specs.RunLists.{AreRunsFrom, IsFound, IsRunOf, IsSetTo, count_numbers, has_number};
+ghost use Rattle.number_sets.specs.RunLists.{AreRunsFrom, IsFound, IsRunOf, IsSetTo, count_numbers};
+ghost use Rattle.number_sets.specs.RunLists.{has_number};
 ghost use Rattle.number_sets.specs.Runs.{has};
 
 use crate::counts::recount;
@@ -23,8 +26,9 @@ pub(crate) struct Run {
 
 /// A set of numbers, held as the runs of numbers that follow one another, ascending.
 ///
-/// There is memory for as many runs as there are numbers, so that taking a number out, which may cut a run in two, takes none.
-/// A look-up takes the logarithm of the number of runs. Where a number comes or goes, the runs behind it are moved or counted anew.
+/// There is memory for as many runs as there are numbers, so that taking a number out, which may
+/// cut a run in two, takes none. A look-up takes the logarithm of the number of runs. Where a
+/// number comes or goes, the runs after it are moved or counted anew.
 pub struct NumberRuns {
     runs: Vec<Run>,
     /// For each run how many numbers are in those before it.
@@ -129,7 +133,8 @@ impl NumberRuns {
         self.runs.is_empty()
     }
 
-    /// The least number from low to high that is in the set; in the logarithm of the number of runs.
+    /// The least number from low to high that is in the set; in the logarithm of the number of
+    /// runs.
     pub fn first_present(&self, low: u128, high: u128) -> Option<u128>
         ensures some { IfSome result (λ n. IsLeastIn (has self.now) low high n) }
         ensures none { IfNone result (NonePasses (has self.now) low high) }
@@ -137,7 +142,8 @@ impl NumberRuns {
         first_of(&self.runs, low, high)
     }
 
-    /// The least number from low to high that isn't in the set; in the logarithm of the number of runs.
+    /// The least number from low to high that isn't in the set; in the logarithm of the number of
+    /// runs.
     pub fn first_absent(&self, low: u128, high: u128) -> Option<u128>
         ensures some { IfSome result (λ n. IsLeastIn (λ m. not (has self.now m)) low high n) }
         ensures none { IfNone result (NonePasses (λ m. not (has self.now m)) low high) }
@@ -147,7 +153,7 @@ impl NumberRuns {
         }
         match run_of(&self.runs, low) {
             None => Some(low),
-            // Runs don't touch, so the number behind this one is absent.
+            // Runs don't touch, so the number after this one is absent.
             Some(run) => {
                 if run.last < high {
                     Some(run.last + 1)
@@ -158,31 +164,36 @@ impl NumberRuns {
         }
     }
 
-    /// The least number from low to high that is in this set and not in the other, whose numbers are all in this one; in the product
-    /// of the logarithms of the numbers of runs.
+    /// The least number from low to high that is in this set and not in the other, whose numbers
+    /// are all in this one; in the product of the logarithms of the numbers of runs.
     pub fn first_beyond(&self, fewer: &NumberRuns, low: u128, high: u128) -> Option<u128>
         requires { IsLeft (has self.now) fewer.now }
         ensures some { IfSome result (λ n. IsLeastIn (is_beyond self.now fewer.now) low high n) }
         ensures none { IfNone result (NonePasses (is_beyond self.now fewer.now) low high) }
     {
         let index = self.runs_up_to(fewer, self.count_beyond(fewer, low));
-        // Behind the run there are more such numbers ahead than at the low end: so this run has the first of them, or none does.
+        // After the run there are more such numbers ahead than at the low end: so this run has the
+        // first of them, or none does.
         let run = run_at(&self.runs, index.checked_sub(1)?)?;
         fewer.first_absent(low.max(run.first), high.min(run.last))
     }
 
-    /// How many runs have at most so many numbers below their first that are in this set and not in the other.
+    /// How many runs have at most so many numbers below their first that are in this set and not in
+    /// the other.
     fn runs_up_to(&self, fewer: &NumberRuns, most: usize) -> usize
         requires { IsLeft (has self.now) fewer.now }
         ensures within { result ≤ length self.now.runs }
-        ensures point { IsPartitionPoint (λ run. count_below (is_beyond self.now fewer.now) run.first ≤ most)
-            (λ run. most < count_below (is_beyond self.now fewer.now) run.first) self.now.runs result }
+        ensures point { IsPartitionPoint
+            (λ run. count_below (is_beyond self.now fewer.now) run.first ≤ most)
+            (λ run. most < count_below (is_beyond self.now fewer.now) run.first) self.now.runs
+            result }
     {
         self.runs
             .partition_point(|run| self.count_beyond(fewer, run.first) <= most)
     }
 
-    /// How many numbers below this one are in this set and not in the other, whose numbers are all in this one.
+    /// How many numbers below this one are in this set and not in the other, whose numbers are all
+    /// in this one.
     fn count_beyond(&self, fewer: &NumberRuns, number: u128) -> usize
         ensures { result ≡ count_below (has self.now) number - count_below (has fewer.now) number }
     {
@@ -202,7 +213,7 @@ impl NumberRuns {
     }
 }
 
-/// The index of the first run that ends at the number or behind it.
+/// The index of the first run that ends at the number or after it.
 fn first_from(runs: &[Run], number: u128) -> usize
     requires { AreRunsFrom 0 runs.now }
     ensures { IsFound number runs.now result }
@@ -246,7 +257,8 @@ fn first_of(runs: &[Run], low: u128, high: u128) -> Option<u128>
     }
 }
 
-/// Puts the number in, at the first run that ends right before it or later. Whether it wasn't there is answered.
+/// Puts the number in, at the first run that ends right before it or later. Whether it wasn't there
+/// is answered.
 fn put(runs: &mut Vec<Run>, index: usize, number: u128) -> bool
     requires found { IsFound (number - 1) runs.old.items index }
     requires room { vec_len runs.old < vec_capacity runs.old }
@@ -292,8 +304,8 @@ fn place(runs: &mut Vec<Run>, index: usize, run: Run)
     }
 }
 
-/// The run at the index, which ends right before the number, takes it in, and is joined with the next one where that begins
-/// right behind the number.
+/// The run at the index, which ends right before the number, takes it in, and is joined with the
+/// next one where that begins right after the number.
 fn extend(runs: &mut Vec<Run>, index: usize, number: u128)
     requires found { IsFound (number - 1) runs.old.items index }
     requires ends { IsSomeAnd (slice_get runs.old.items index) (λ run. run.last + 1 ≡ number) }
@@ -320,7 +332,8 @@ fn extend(runs: &mut Vec<Run>, index: usize, number: u128)
     }
 }
 
-/// Takes the number out of the first run that ends at it or later. Whether it was there is answered.
+/// Takes the number out of the first run that ends at it or later. Whether it was there is
+/// answered.
 fn take(runs: &mut Vec<Run>, index: usize, number: u128) -> bool
     requires found { IsFound number runs.old.items index }
     requires room { count_numbers runs.old.items ≤ vec_capacity runs.old }

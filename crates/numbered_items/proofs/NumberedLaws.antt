@@ -63,7 +63,7 @@ module _ {X : Type 0} where
   ascending-items [] s = tt
   ascending-items (s ∷ slots) sorted = ascending-by s.0 s.1 slots sorted.0 (ascending-items slots sorted.1)
 
-  -- no item behind a slot has its number
+  -- no item after a slot has its number
   apart-behind-by : (n m : ℕ) (slot : Option X) (slots : List (ℕ × Option X)) → nat_cmp n m ≡ Less → NonePasses (λ k. k == n) (items_of slots)
       → NonePasses (λ k. k == n) (items_of ((m, slot) ∷ slots))
   apart-behind-by n m None slots less rest = rest

@@ -72,7 +72,7 @@ rising (x ∷ xs) up zero (suc j) le lt = let above : x < get_or xs j 0 = above-
 rising (x ∷ xs) up (suc i) zero le lt = absurd (omega (arith, le))
 rising (x ∷ xs) up (suc i) (suc j) le lt = rising xs up.1 i j (omega (arith, le)) (omega (arith, lt))
 
--- what a search by halves found is taken out; where it found nothing, all stay
+-- what a search by binary search found is taken out; where it found nothing, all stay
 pub found-out : (n : ℕ) (xs : List ℕ) (i : ℕ) → IsStrictlySortedBy nat_cmp xs → IsBinarySearchResult (λ m. nat_cmp m n) xs (Ok i) → i < length xs
     → remove xs i ≡ filter (λ m. not (m == n)) xs
 found-out n xs i up found lt = taken-out n xs i up lt (searched xs n (Ok i) found (rising xs up)).1
@@ -86,7 +86,7 @@ none-out n xs i up found =
     other : (k m : ℕ) → (k < i → m < n) → (i ≤ k → n < m) → (m == n) ≡ false
     other k m front back = grind (arith, nat_tests, front, back)
 
--- ---- numbers behind those that are gone
+-- ---- numbers after those that are gone
 
 -- those at the front are taken away
 pub front-dropped : (xs : List ℕ) (gone left : ℕ) → gone + left ≡ length xs → take left (paste xs 0 (drop gone xs) left) ≡ drop gone xs
@@ -105,7 +105,7 @@ moved-up xs gone i lt =
     ∙ drop_at (take (gone + 1) xs) (take i (drop gone xs) ++ drop (gone + 1 + i) xs) (gone + 1) front
     ∙ ap (λ (rest : List ℕ). take i (drop gone xs) ++ rest) (ap (λ k. drop k xs) on ∙ sym (drop-drop (suc i) gone xs))
 
--- those behind the index move down
+-- those after the index move down
 pub moved-down : (xs : List ℕ) (gone i : ℕ) → gone + i < length xs → drop gone (remove xs (gone + i)) ≡ remove (drop gone xs) i
 moved-down xs gone i lt =
     let front : gone ≤ length (take (gone + i) xs) = let long = length-take-le (gone + i) xs (omega (arith, lt)) in omega (arith, long) in

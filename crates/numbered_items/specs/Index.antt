@@ -39,7 +39,7 @@ room_under cmp index term = room_in (lookup (is_at (cmp term)) index)
 abbrev pub list_behind : {A : Type 0} → ℕ → Vec ℕ A → TermList
 list_behind gone list = record { numbers = drop gone list.items; room = vec_capacity list - vec_len list }
 
--- So many numbers of the vector are gone, and those behind them ascend where the flag says so.
+-- So many numbers of the vector are gone, and those after them ascend where the flag says so.
 pub record AreLeft {A : Type 0} (gone : ℕ) (ascending : Bool) (list : Vec ℕ A) : Type 0 where
   pub within : gone ≤ vec_len list
   pub ascend : ascending ≡ true → IsStrictlySortedBy nat_cmp (drop gone list.items)

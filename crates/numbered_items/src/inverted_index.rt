@@ -1,5 +1,6 @@
 //! The numbers of items, listed under each term that the items have.
-ghost use Rattle.std.specs.Prelude.{◌≡◌, ◌==◌, ◌<◌, ◌≤◌, ◌+◌, ◌∷◌, ◌++◌, [], if◌then◌else◌, false, not, filter, OnOk};
+ghost use Rattle.std.specs.Prelude.{◌≡◌, ◌==◌, ◌<◌, ◌≤◌, ◌+◌, ◌∷◌, ◌++◌, [], if◌then◌else◌, false};
+ghost use Rattle.std.specs.Prelude.{not, filter, OnOk};
 ghost use Rattle.std.specs.BTreeMap.{is_at};
 ghost use Rattle.numbered_items.specs.Index.{numbers_under, room_under};
 
@@ -9,9 +10,10 @@ use std::alloc::Global;
 use std::collections::BTreeMap;
 use std::marker::Model;
 
-/// An inverted index: under each term the numbers of the items that have it, in the order in which they were added. Terms that
-/// are equal have one list. Contracts see the terms with their lists, and say by `numbers_under` and `room_under` what a call does.
-/// A look-up takes the logarithm of the number of terms in comparisons.
+/// An inverted index: under each term the numbers of the items that have it, in the order in which
+/// they were added. Terms that are equal have one list. Contracts see the terms with their lists,
+/// and say by `numbers_under` and `room_under` what a call does. A look-up takes the logarithm of
+/// the number of terms in comparisons.
 pub struct InvertedIndex<T: Ord> {
     alloc: Global,
     lists: BTreeMap<T, TermNumbers>,
@@ -52,13 +54,15 @@ impl<T: Ord> InvertedIndex<T> {
         }
     }
 
-    /// Adds the number at the end of the term's list, in the logarithm of the number of terms. There is room for it, so it takes
-    /// no memory.
+    /// Adds the number at the end of the term's list, in the logarithm of the number of terms.
+    /// There is room for it, so it takes no memory.
     pub fn add(&mut self, term: &T, number: u64)
         requires { 0 < room_under T.cmp self.old term.now }
         ensures numbers { numbers_under T.cmp self.new
-            ≡ (λ t. if is_at (T.cmp term.now) t then numbers_under T.cmp self.old t ++ number ∷ [] else numbers_under T.cmp self.old t) }
-        ensures room { (t : T) → room_under T.cmp self.old t ≤ room_under T.cmp self.new t + (if is_at (T.cmp term.now) t then 1 else 0) }
+            ≡ (λ t. if is_at (T.cmp term.now) t then numbers_under T.cmp self.old t ++ number ∷ []
+            else numbers_under T.cmp self.old t) }
+        ensures room { (t : T) → room_under T.cmp self.old t
+            ≤ room_under T.cmp self.new t + (if is_at (T.cmp term.now) t then 1 else 0) }
     {
         let Some(list) = self.lists.get_mut(term) else {
             return;
@@ -68,8 +72,8 @@ impl<T: Ord> InvertedIndex<T> {
 }
 
 impl<T: Ord + Drop> InvertedIndex<T> {
-    /// Makes room for so many numbers more under the term. Where there is no memory all numbers stay. The term is dropped where
-    /// an equal one is listed.
+    /// Makes room for so many numbers more under the term. Where there is no memory all numbers
+    /// stay. The term is dropped where an equal one is listed.
     pub fn reserve(&mut self, term: T, more: usize) -> Result<(), NoMemory>
         ensures numbers { numbers_under T.cmp self.new ≡ numbers_under T.cmp self.old }
         ensures room { OnOk result (more ≤ room_under T.cmp self.new term) }
@@ -83,13 +87,17 @@ impl<T: Ord + Drop> InvertedIndex<T> {
         Ok(())
     }
 
-    /// Takes the number out of the term's list, wherever it stands in it. A list that is empty then is dropped, with its room. It
-    /// takes no memory. Where each number of the list was greater than the one before it, the number is found in the logarithm of the
-    /// list's length, and those on the shorter side of it move; else the list is gone through.
+    /// Takes the number out of the term's list, wherever it stands in it. A list that is empty then
+    /// is dropped, with its room. It takes no memory. Where each number of the list was greater
+    /// than the one before it, the number is found in the logarithm of the list's length, and those
+    /// on the shorter side of it move; else the list is gone through.
     pub fn remove(&mut self, term: &T, number: u64)
         ensures numbers { numbers_under T.cmp self.new
-            ≡ (λ t. if is_at (T.cmp term.now) t then filter (λ n. not (n == number)) (numbers_under T.cmp self.old t) else numbers_under T.cmp self.old t) }
-        ensures room { (t : T) → is_at (T.cmp term.now) t ≡ false → room_under T.cmp self.new t ≡ room_under T.cmp self.old t }
+            ≡ (λ t. if is_at (T.cmp term.now) t
+            then filter (λ n. not (n == number)) (numbers_under T.cmp self.old t)
+            else numbers_under T.cmp self.old t) }
+        ensures room { (t : T) → is_at (T.cmp term.now) t ≡ false
+            → room_under T.cmp self.new t ≡ room_under T.cmp self.old t }
     {
         let Some(list) = self.lists.get_mut(term) else {
             return;
@@ -104,7 +112,8 @@ impl<T: Ord + Drop> InvertedIndex<T> {
     fn drop_empty(&mut self, term: &T)
         requires { numbers_under T.cmp self.old term.now ≡ [] }
         ensures numbers { numbers_under T.cmp self.new ≡ numbers_under T.cmp self.old }
-        ensures room { (t : T) → is_at (T.cmp term.now) t ≡ false → room_under T.cmp self.new t ≡ room_under T.cmp self.old t }
+        ensures room { (t : T) → is_at (T.cmp term.now) t ≡ false
+            → room_under T.cmp self.new t ≡ room_under T.cmp self.old t }
     {
         let _empty = self.lists.remove(term);
     }

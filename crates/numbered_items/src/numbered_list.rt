@@ -1,5 +1,6 @@
 //! A list whose items have numbers that stay.
-ghost use Rattle.std.specs.Prelude.{◌≡◌, ◌==◌, ◌+◌, ◌<◌, ◌≤◌, ◌^◌, ◌∷◌, ◌++◌, [], not, nat_lt, filter, All, IfSome, OnOk};
+ghost use Rattle.std.specs.Prelude.{◌≡◌, ◌==◌, ◌+◌, ◌<◌, ◌≤◌, ◌^◌, ◌∷◌, ◌++◌, [], not, nat_lt};
+ghost use Rattle.std.specs.Prelude.{filter, All, IfSome, OnOk};
 ghost use Rattle.std.specs.Option.{option_copied, option_map};
 ghost use Rattle.std.specs.Ordering.{nat_cmp};
 ghost use Rattle.std.specs.List.{find};
@@ -11,10 +12,11 @@ use std::alloc::Global;
 use std::collections::BTreeMap;
 use std::marker::Model;
 
-/// A list whose items have ascending numbers, which contracts see as those numbers with their items and the room for more.
+/// A list whose items have ascending numbers, which contracts see as those numbers with their items
+/// and the room for more.
 ///
-/// An item keeps its number when others are removed, and no number is given twice. So an item is found, put at the end and removed
-/// anywhere in the logarithm of the number of items.
+/// An item keeps its number when others are removed, and no number is given twice. So an item is
+/// found, put at the end and removed anywhere in the logarithm of the number of items.
 pub struct NumberedList<X> {
     slots: BTreeMap<u64, Option<X>>,
     next: u64,
@@ -55,9 +57,11 @@ impl<X> NumberedList<X> {
         self.slots.get(&number)?.as_ref()
     }
 
-    /// The first item whose number is this one or a greater one, with its number, which is below 2^64 - 1.
+    /// The first item whose number is this one or a greater one, with its number, which is below
+    /// 2^64 - 1.
     pub fn first_from(&self, number: u64) -> Option<(u64, &X)>
-        ensures item { option_map (λ p. (p.0, p.1.now)) result ≡ find (λ p. not (nat_lt p.0 number)) self.now.items }
+        ensures item { option_map (λ p. (p.0, p.1.now)) result
+            ≡ find (λ p. not (nat_lt p.0 number)) self.now.items }
         ensures within { IfSome result (λ p. p.0 + 1 < 2 ^ 64) }
         ensures ascending { IsStrictlySortedBy nat_cmp (keys_of self.now.items) }
     {
@@ -69,8 +73,8 @@ impl<X> NumberedList<X> {
 }
 
 impl<X: Drop> NumberedList<X> {
-    /// Makes room for one item, unless there is some. Where there is no memory, or once 2^64 - 1 numbers have been given, it answers
-    /// NoMemory, and all items stay.
+    /// Makes room for one item, unless there is some. Where there is no memory, or once 2^64 - 1
+    /// numbers have been given, it answers NoMemory, and all items stay.
     pub fn reserve(&mut self) -> Result<(), NoMemory>
         ensures items { self.new.items ≡ self.old.items }
         ensures room { OnOk result (0 < self.new.room) }
@@ -84,8 +88,8 @@ impl<X: Drop> NumberedList<X> {
         Ok(())
     }
 
-    /// Puts the item at the end, and gives its number, which is greater than each that was given before. There is room for it, so
-    /// it takes no memory.
+    /// Puts the item at the end, and gives its number, which is greater than each that was given
+    /// before. There is room for it, so it takes no memory.
     pub fn push(&mut self, item: X) -> u64
         requires { 0 < self.old.room }
         ensures items { self.new.items ≡ self.old.items ++ (result, item) ∷ [] }

@@ -1,5 +1,6 @@
 //! The numbers that are listed under one term.
-ghost use Rattle.std.specs.Prelude.{◌≡◌, ◌==◌, ◌<◌, ◌≤◌, ◌+◌, ◌-◌, ◌∷◌, ◌++◌, [], not, filter, length, drop, vec_len, slice_index, IfOk, IsTrue, OnOk};
+ghost use Rattle.std.specs.Prelude.{◌≡◌, ◌==◌, ◌<◌, ◌≤◌, ◌+◌, ◌-◌, ◌∷◌, ◌++◌, [], not, filter};
+ghost use Rattle.std.specs.Prelude.{length, drop, vec_len, slice_index, IfOk, IsTrue, OnOk};
 ghost use Rattle.std.specs.List.{remove};
 
 use mlb_base::NoMemory;
@@ -10,9 +11,10 @@ use std::marker::Model;
 #[derive(Drop)]
 pub(crate) struct TermNumbers {
     numbers: Vec<u64>,
-    /// How many at the front were taken out already. They keep their places until they are more than half.
+    /// How many at the front were taken out already. They keep their places until they are more
+    /// than half.
     gone: usize,
-    /// Whether each was greater than the one before it. Then a number is found by halves.
+    /// Whether each was greater than the one before it. Then a number is found by binary search.
     ascending: bool,
 }
 
@@ -28,7 +30,8 @@ impl Model for TermNumbers {
 
 /// Whether the number is greater than the last one, where there is one.
 fn is_above_last(numbers: &[u64], number: u64) -> bool
-    ensures { IsTrue result → 0 < length numbers.now → slice_index numbers.now (length numbers.now - 1) < number }
+    ensures { IsTrue result → 0 < length numbers.now
+        → slice_index numbers.now (length numbers.now - 1) < number }
 {
     match numbers.last() {
         Some(last) => *last < number,
@@ -76,7 +79,8 @@ impl TermNumbers {
         self.numbers.push_reserved(number);
     }
 
-    /// Takes the number out, wherever it stands. It takes no memory. Where it is found by halves, those of the shorter side of it move.
+    /// Takes the number out, wherever it stands. It takes no memory. Where it is found by binary
+    /// search, those of the shorter side of it move.
     pub(crate) fn remove(&mut self, number: u64)
         ensures { self.new.numbers ≡ filter (λ n. not (n == number)) self.old.numbers }
     {
@@ -92,7 +96,8 @@ impl TermNumbers {
     }
 }
 
-/// Takes out the number at the index behind those that are gone. It is answered how many are gone then.
+/// Takes out the number at the index after those that are gone. It is answered how many are gone
+/// then.
 fn remove_behind(numbers: &mut Vec<u64>, gone: usize, index: usize) -> usize
     requires { gone + index < vec_len numbers.old }
     ensures numbers { drop result numbers.new.items ≡ remove (drop gone numbers.old.items) index }

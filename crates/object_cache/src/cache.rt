@@ -1,7 +1,9 @@
 //! What is held of a cluster.
-ghost use Rattle.std.specs.Prelude.{◌≡◌, ◌↔◌, ◌&&◌, ℕ, true, false, Some, IfOk, OnOk, OnErr, IsErrOf};
+ghost use Rattle.std.specs.Prelude.{◌≡◌, ◌↔◌, ◌&&◌, ℕ, true, false, Some, IfOk, OnOk, OnErr};
+ghost use Rattle.std.specs.Prelude.{IsErrOf};
 ghost use Rattle.std.specs.Option.{option_copied};
-ghost use Rattle.kube_model.specs.declared.event.Event.TheVariants.{Changed, Deleted, ListEnd, Expired as ExpiredEvent};
+ghost use Rattle.kube_model.specs.declared.event.Event.TheVariants.{Changed, Deleted, ListEnd};
+ghost use Rattle.kube_model.specs.declared.event.Event.TheVariants.{Expired as ExpiredEvent};
 ghost use Rattle.kube_model.specs.declared.object.Kind.{Kind};
 ghost use Rattle.versioned_map.specs.Objects.{object_at, version_at};
 ghost use Rattle.kube_labels.specs.Names.{name_cmp};
@@ -28,7 +30,8 @@ use std::marker::Model;
 use std::mem;
 use versioned_map::VersionedMap;
 
-/// The objects of a cluster as they were last shown, which lists have ended, and the configuration in force.
+/// The objects of a cluster as they were last shown, which lists have ended, and the configuration
+/// in force.
 pub struct ObjectCache {
     alloc: Global,
     services: VersionedMap<Key, Service>,
@@ -156,8 +159,8 @@ impl ObjectCache {
         self.config.as_ref()
     }
 
-    /// The watch of this list has expired, and begins anew: what came in it is held at version 0, and the list hasn't ended.
-    /// This takes no memory.
+    /// The watch of this list has expired, and begins anew: what came in it is held at version 0,
+    /// and the list hasn't ended. This takes no memory.
     pub fn expire(&mut self, group: ListGroup)
         ensures { self.new ≡ cached_after (WatchExpired group) self.old }
     {
@@ -200,7 +203,8 @@ impl ObjectCache {
         self.endpoints_ended = false;
     }
 
-    /// The service's record was replaced by this one, which made it this version. Where the service isn't held, nothing changes.
+    /// The service's record was replaced by this one, which made it this version. Where the service
+    /// isn't held, nothing changes.
     pub fn store(&mut self, key: &Key, version: u64, holding: Record)
         ensures { self.new ≡ cached_after (Written key.now version holding) self.old }
     {
@@ -214,10 +218,11 @@ impl ObjectCache {
         passes(&self.services, MOST_SERVICES, version, key)
     }
 
-    /// A service is shown, and held where it is newer than what is held. The limit isn't asked. After want of memory the cache is
-    /// unchanged.
+    /// A service is shown, and held where it is newer than what is held. The limit isn't asked.
+    /// Where memory ran out the cache is unchanged.
     pub fn show_service(&mut self, version: u64, service: Service) -> Result<(), NoMemory>
-        ensures ok { OnOk result (self.new ≡ cached_after (Watched (Changed version (Object.Service service))) self.old) }
+        ensures ok { OnOk result (self.new
+            ≡ cached_after (Watched (Changed version (Object.Service service))) self.old) }
         ensures err { OnErr result (self.new ≡ self.old) }
     {
         show_service(&mut self.services, version, service)
@@ -230,7 +235,8 @@ impl ObjectCache {
         drop(self.services.remove(key));
     }
 
-    /// The list of services has ended: those that weren't listed aren't held any more. This takes no memory.
+    /// The list of services has ended: those that weren't listed aren't held any more. This takes
+    /// no memory.
     pub fn end_services(&mut self)
         ensures { self.new ≡ cached_after (Watched (ListEnd ListGroup.Service)) self.old }
     {
@@ -238,14 +244,16 @@ impl ObjectCache {
         self.services_ended = true;
     }
 
-    /// Applies an event. A changed object whose version isn't greater than the held one is passed over; a key that isn't held
-    /// counts as held at version 0, so an object at version 0 is never taken. A deletion applies whatever its version, and also
-    /// where nothing is held. After a refusal the cache is unchanged.
+    /// Applies an event. A changed object whose version isn't greater than the held one is ignored;
+    /// a key that isn't held counts as held at version 0, so an object at version 0 is never taken.
+    /// A deletion applies whatever its version, and also where nothing is held. After a refusal the
+    /// cache is unchanged.
     pub fn apply(&mut self, event: Event) -> Result<Applied, ApplyFault>
         ensures applied { IfOk result (λ a. a ≡ applied self.old event) }
         ensures ok { OnOk result (self.new ≡ cached_after (Watched event) self.old) }
         ensures limit { (kind : Kind) (count : ℕ)
-            → IsErrOf result (ApplyFault.Limit kind count) ↔ (limit_of self.old event ≡ Some (kind, count)) }
+            → IsErrOf result (ApplyFault.Limit kind count)
+            ↔ (limit_of self.old event ≡ Some (kind, count)) }
         ensures err { OnErr result (self.new ≡ self.old) }
     {
         if let Some((kind, count)) = self.limit_of(&event) {
@@ -255,7 +263,8 @@ impl ObjectCache {
         Ok(self.apply_within(event)?)
     }
 
-    /// The limit that the event would pass: the kind of which one more would be held than may be, and how many that were.
+    /// The limit that the event would pass: the kind of which one more would be held than may be,
+    /// and how many that were.
     pub fn limit_of(&self, event: &Event) -> Option<(Kind, u64)>
         ensures { result ≡ limit_of self.now event.now }
     {
@@ -322,7 +331,8 @@ impl ObjectCache {
 
     fn show(&mut self, version: u64, object: Object) -> Result<Applied, NoMemory>
         ensures applied { IfOk result (λ a. a ≡ applied self.old (Changed version object)) }
-        ensures ok { OnOk result (self.new ≡ cached_after (Watched (Changed version object)) self.old) }
+        ensures ok { OnOk result (self.new
+            ≡ cached_after (Watched (Changed version object)) self.old) }
         ensures err { OnErr result (self.new ≡ self.old) }
     {
         match object {
@@ -372,7 +382,8 @@ impl ObjectCache {
         self.compile_objects(objects)
     }
 
-    /// The configuration is compiled from these objects, which are held from now on. Where it is accepted, it is in force.
+    /// The configuration is compiled from these objects, which are held from now on. Where it is
+    /// accepted, it is in force.
     fn compile_objects(&mut self, objects: ObjectSet) -> Result<Applied, NoMemory>
         ensures applied { IfOk result (λ a. a ≡ config_applied true objects) }
         ensures ok { OnOk result (self.new ≡ with_objects self.old true objects) }
@@ -470,7 +481,8 @@ impl ObjectCache {
 
     fn end_config(&mut self) -> Result<Applied, NoMemory>
         ensures applied { IfOk result (λ a. a ≡ applied self.old (ListEnd ListGroup.Config)) }
-        ensures ok { OnOk result (self.new ≡ cached_after (Watched (ListEnd ListGroup.Config)) self.old) }
+        ensures ok { OnOk result (self.new
+            ≡ cached_after (Watched (ListEnd ListGroup.Config)) self.old) }
         ensures err { OnErr result (self.new ≡ self.old) }
     {
         let mut objects = self.objects.copy()?;

@@ -17,7 +17,8 @@ pub enum TakeNote {
 /// What an event came to.
 #[derive(Drop)]
 pub struct Applied {
-    /// A namespace was shown that is newer than what was held, or was deleted, also one that wasn't held.
+    /// A namespace was shown that is newer than what was held, or was deleted, also one that wasn't
+    /// held.
     pub namespace_changed: bool,
     pub note: TakeNote,
 }

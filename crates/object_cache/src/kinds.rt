@@ -18,7 +18,8 @@ pub(crate) fn show_service(
     version: u64,
     service: Service,
 ) -> Result<(), NoMemory>
-    ensures ok { OnOk result (services.new ≡ shown key_cmp services.old service.key version service) }
+    ensures ok { OnOk result (services.new
+        ≡ shown key_cmp services.old service.key version service) }
     ensures err { OnErr result (services.new ≡ services.old) }
 {
     drop(show_under(services, service.key.copy(), version, service)?);
@@ -31,8 +32,10 @@ pub(crate) fn show_namespace(
     version: u64,
     namespace: Namespace,
 ) -> Result<bool, NoMemory>
-    ensures newer { IfOk result (λ newer. newer ≡ is_newer name_cmp namespaces.old namespace.name version) }
-    ensures ok { OnOk result (namespaces.new ≡ shown name_cmp namespaces.old namespace.name version namespace) }
+    ensures newer { IfOk result (λ newer. newer
+        ≡ is_newer name_cmp namespaces.old namespace.name version) }
+    ensures ok { OnOk result (namespaces.new
+        ≡ shown name_cmp namespaces.old namespace.name version namespace) }
     ensures err { OnErr result (namespaces.new ≡ namespaces.old) }
 {
     let shown = show_under(namespaces, namespace.name.copy(), version, namespace)?;
@@ -87,7 +90,8 @@ fn show_under<K: Ord + Drop, T: Drop>(
     version: u64,
     object: T,
 ) -> Result<Shown<T>, NoMemory>
-    ensures note { IfOk result (λ note. IsOkAnd key (λ k. note ≡ shown_note K.cmp held.old k version object)) }
+    ensures note { IfOk result (λ note. IsOkAnd key
+        (λ k. note ≡ shown_note K.cmp held.old k version object)) }
     ensures ok { OnOk result (IsOkAnd key (λ k. held.new ≡ shown K.cmp held.old k version object)) }
     ensures err { OnErr result (held.new ≡ held.old) }
 {

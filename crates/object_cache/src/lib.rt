@@ -1,4 +1,5 @@
-//! What a controller or a speaker holds of a cluster: its objects, which lists have ended, the configuration in force.
+//! What a controller or a speaker holds of a cluster: its objects, which lists have ended, the
+//! configuration in force.
 #![tactic(auto)]
 
 mod cache;

@@ -39,7 +39,7 @@ module _ {K T : Type 0} (resource : Resource K T) where
   written_in None version entries = entries
   written_in (Some p) version entries = amended resource.cmp entries p.0 version p.1
 
-  -- A changed object whose version isn't greater than the held one is passed over; a deletion applies whatever its version;
+  -- A changed object whose version isn't greater than the held one is ignored; a deletion applies whatever its version;
   -- where the list ends, what is held at version 0 is dropped; where the watch has expired, every version is 0.
   abbrev pub held_after_event : Event → List (K × Versioned T) → List (K × Versioned T)
   held_after_event (Changed version object) entries = shown_in (resource.shown object) version entries

@@ -38,7 +38,7 @@ module _ {X : Type 0} where
   pub pairs-map : (P Q : X → X → Type 0) (xs : List X) → ((x y : X) → P x y → Q x y) → AllPairs P xs → AllPairs Q xs
   pairs-map P Q xs each pairs i j d lt within = each (get_or xs i d) (get_or xs j d) (pairs i j d lt within)
 
--- ---- the items that ascend, each before those behind it
+-- ---- the items that ascend, each before those after it
 module _ {X : Type 0} (R : X → X → Ordering) where
   pub pairs-ascend : (xs : List X) → IsStrictlySortedBy R xs → AllPairs (λ x y. R x y ≡ Less) xs
   unfolding IsStrictlySortedBy

@@ -36,7 +36,7 @@ StandsBefore p q = StandsBy p.allocation q.allocation p.name q.name
 abbrev pub IsOffered : Service → List (List ℕ × List ℕ) → CompiledPool → Type 0
 IsOffered service labels pool = (pool.auto_assign ≡ true) × Serves service labels pool
 
--- The pools found are exactly those that are offered to the service; each stands before those behind it, so it is there once.
+-- The pools found are exactly those that are offered to the service; each stands before those after it, so it is there once.
 pub record AreEligible (service : Service) (labels : List (List ℕ × List ℕ)) (pools found : List CompiledPool) : Type 0 where
   pub ordered : AllPairs StandsBefore found
   pub exact : (pool : CompiledPool) → Contains found pool ↔ (Contains pools pool × IsOffered service labels pool)

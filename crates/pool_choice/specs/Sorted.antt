@@ -8,7 +8,7 @@ abbrev pub placed : {X : Type 0} → (X → X → Ordering) → X → List X →
 placed cmp x [] = x ∷ []
 placed cmp x (y ∷ ys) = if is_lt (cmp x y) then x ∷ y ∷ ys else y ∷ placed cmp x ys
 
--- the items, each in its place among those behind it
+-- the items, each in its place among those after it
 abbrev pub sorted : {X : Type 0} → (X → X → Ordering) → List X → List X
 sorted cmp [] = []
 sorted cmp (x ∷ xs) = placed cmp x (sorted cmp xs)

@@ -1,7 +1,8 @@
 //! The pools that serve a service unasked, in their order.
 ghost use Rattle.std.specs.Prelude.{◌≡◌, map, slice_get, IfOk, Some};
 ghost use Rattle.std.specs.Option.{option_copied};
-ghost use Rattle.pool_choice.specs.Eligible.{AreEligible, is_offered, eligible, ranked_from, ranked_cmp};
+ghost use Rattle.pool_choice.specs.Eligible.{AreEligible, is_offered, eligible, ranked_from};
+ghost use Rattle.pool_choice.specs.Eligible.{ranked_cmp};
 ghost use Rattle.pool_choice.specs.Rank.{rank_by, rank_of};
 ghost use Rattle.pool_choice.specs.Sorted.{sorted};
 
@@ -26,7 +27,8 @@ enum Rank {
     Unallocated,
 }
 
-/// A pool of a configuration: ranked pools are ordered by rank, then by place, which is the order of the names.
+/// A pool of a configuration: ranked pools are ordered by rank, then by place, which is the order
+/// of the names.
 #[derive(Clone, Copy, PartialEq, Eq, PartialOrd, Ord)]
 struct RankedPool {
     rank: Rank,
@@ -67,7 +69,8 @@ fn offered(
     service: &Service,
     namespace: &Labels,
 ) -> Result<Vec<RankedPool>, NoMemory>
-    ensures { IfOk result (λ ranked. ranked.items ≡ ranked_from service.now namespace.now 0 pools.now) }
+    ensures { IfOk result (λ ranked. ranked.items
+        ≡ ranked_from service.now namespace.now 0 pools.now) }
 {
     let mut ranked = Vec::new(alloc);
     for (place, pool) in pools.iter().enumerate() {
@@ -114,14 +117,16 @@ fn eligible_in(
     namespace: &Labels,
 ) -> Result<PoolIndexes, NoMemory>
     ensures { IfOk result (λ places. places
-        ≡ map (λ e. e.place) (sorted ranked_cmp (ranked_from service.now namespace.now 0 pools.now))) }
+        ≡ map (λ e. e.place) (sorted ranked_cmp
+        (ranked_from service.now namespace.now 0 pools.now))) }
 {
     let ranked = in_order(alloc, pools, service, namespace)?;
     places(alloc, ranked.as_slice())
 }
 
-/// The pools of the configuration that serve the service unasked, whose namespace has these labels: those with a service
-/// allocation first, by priority ascending with 0 last, of one priority by name; then the others by name.
+/// The pools of the configuration that serve the service unasked, whose namespace has these labels:
+/// those with a service allocation first, by priority ascending with 0 last, of one priority by
+/// name; then the others by name.
 pub fn eligible(
     alloc: Global,
     config: &Config,

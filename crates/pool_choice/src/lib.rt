@@ -1,4 +1,5 @@
-//! Which services a pool serves, and which pools serve a service that asks for none, in which order.
+//! Which services a pool serves, and which pools serve a service that asks for none, in which
+//! order.
 #![tactic(auto)]
 
 mod choice;

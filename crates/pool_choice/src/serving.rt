@@ -41,8 +41,9 @@ fn test(pool: &CompiledPool, service: &Service, namespace: &Labels) -> bool
     }
 }
 
-/// Whether the pool serves the service, whose namespace has these labels: the pool has no service allocation, or the namespace
-/// and the labels of the service pass it. A part of the allocation that is empty passes. It takes no memory.
+/// Whether the pool serves the service, whose namespace has these labels: the pool has no service
+/// allocation, or the namespace and the labels of the service pass it. A part of the allocation
+/// that is empty passes. It takes no memory.
 pub fn serves(pool: &CompiledPool, service: &Service, namespace: &Labels) -> bool
     ensures value { result ≡ serves service.now namespace.now pool.now }
     ensures meaning { IsTrue result ↔ Serves service.now namespace.now pool.now }

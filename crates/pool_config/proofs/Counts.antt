@@ -81,7 +81,7 @@ none_counted {X} p (x ∷ xs) none = go (p x) (count-cons p x xs) (none_counted 
 overlaps-itself : (s : SpanValue) → s.low ≤ s.high → overlaps s s ≡ true
 overlaps-itself s rises = rw (same_family-itself s.family, le-leb s.low s.high rises) refl
 
--- where a span overlaps no more than itself, it overlaps none behind it
+-- where a span overlaps no more than itself, it overlaps none after it
 alone : (s : SpanValue) → s.low ≤ s.high → (before behind : List SpanValue) → count_by (overlaps s) (before ++ s ∷ behind) ≤ 1
     → list_any (overlaps s) behind ≡ false
 alone s rises before behind few =

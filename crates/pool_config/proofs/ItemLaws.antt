@@ -67,7 +67,7 @@ same_item [] i x y hx hy = absurd hx
 same_item (z ∷ xs) zero x y hx hy = sym hx ∙ hy
 same_item (z ∷ xs) (suc i) x y hx hy = same_item xs i x y hx hy
 
--- the item behind those of a list, and how many these are
+-- the item after those of a list, and how many these are
 pub item_at_length : {A : Type 0} (done rest : List A) (x : A) → ItemAt (done ++ x ∷ rest) (length done) x
 item_at_length [] rest x = refl
 item_at_length (y ∷ ys) rest x = item_at_length ys rest x

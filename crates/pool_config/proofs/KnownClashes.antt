@@ -154,7 +154,7 @@ module _ (bgp : List CompiledBgp) where
         go true same = refl
         go false differ = rw (← are) (at-pools a b i j a-there b-there differ known all none)
 
-    -- the advertisements behind a place of the list
+    -- the advertisements after a place of the list
     none-behind : (a : CompiledBgp) (i : ℕ) → ItemAt bgp i a → clashes_anywhere known a ≡ false → (behind : List CompiledBgp)
         → ((k : ℕ) (b : CompiledBgp) → ItemAt behind k b → (j : ℕ) × ItemAt bgp j b)
         → find (clash pools a) behind ≡ None

@@ -33,7 +33,7 @@ words_written : (a b c : ℕ) → a < 2 ^ 32 → b < 2 ^ 32 → c < 2 ^ 32
     → words_of (decimal a ++ 58 ∷ (decimal b ++ 58 ∷ decimal c)) ≡ Some (record { global = a; first = b; second = c })
 words_written a b c fa fb fc = words-before a (decimal b ++ 58 ∷ decimal c) (b, c) fa (local_written b c fb fc)
 
--- behind the mark stands what is behind the first colon
+-- after the mark stands what is behind the first colon
 behind_mark : (rest : List ℕ) → after_first is_colon (large_mark ++ rest) ≡ rest
 behind_mark rest = refl
 

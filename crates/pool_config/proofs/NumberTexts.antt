@@ -62,7 +62,7 @@ below_decimal limit small a fits =
     let below : nat_lt (digits_value 10 (decimal a)) limit ≡ true = lt-ltb _ _ (omega arith) in
     rw (decimal_unpadded a wide, digits, some, below) (ap (λ n. Some n) value)
 
--- what stands before a colon and behind it
+-- what stands before a colon and after it
 get_left : (xs ys : List ℕ) (k d : ℕ) → k < length xs → get_or (xs ++ ys) k d ≡ get_or xs k d
 get_left [] ys k d h = absurd (omega arith)
 get_left (x ∷ xs) ys zero d h = refl
@@ -116,7 +116,7 @@ drop_short [] (suc n) h = absurd (let none : 0 < 0 = h in omega arith)
 drop_short (x ∷ xs) zero h = omega arith
 drop_short (x ∷ xs) (suc n) h = let rest = drop_short xs n h in omega arith
 
--- a text with something behind its first colon is what stands before it, the colon, and that
+-- a text with something after its first colon is what stands before it, the colon, and that
 pub cut_at_colon : (text : List ℕ) → 0 < length (after_first is_colon text) → text ≡ before_first is_colon text ++ 58 ∷ after_first is_colon text
 cut_at_colon text long =
     let within : position_or_len is_colon text < length text = (let far = drop_short text (position_or_len is_colon text + 1) long in omega arith) in

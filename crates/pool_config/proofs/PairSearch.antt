@@ -44,7 +44,7 @@ in_pool name a (s ∷ ss) = go (overlaps a.1 s) (in_pool name a ss)
     go true rest = refl
     go false rest = rest
 
--- among those of the pools behind
+-- among those of the pools after
 in_pools : (a : Placed) (pools : List CompiledPool)
     → option_map key_of (find (meet a) (placed_spans pools)) ≡ option_map (λ p. p.name) (find (λ p. list_any (overlaps a.1) p.spans) pools)
 in_pools a [] = refl
@@ -70,7 +70,7 @@ behind name s others pools =
     go true = refl
     go false = refl
 
--- a span that overlaps none of those behind it
+-- a span that overlaps none of those after it
 none_in_pools : (s : SpanValue) (pools : List CompiledPool) → list_any (overlaps s) (all_spans pools) ≡ false
     → find (λ p. list_any (overlaps s) p.spans) pools ≡ None
 none_in_pools s [] none = refl
@@ -88,7 +88,7 @@ none_behind name s others pools none =
     let here : list_any (overlaps s) others ≡ false = (or_parts _ _ parts).0 in
     rw here (ap (option_map (λ p. p.name)) (none_in_pools s pools (or_parts _ _ parts).1))
 
--- the spans that overlap no other one are passed over
+-- the spans that overlap no other one are ignored
 passed_over : (before : List SpanValue) (name : List ℕ) (s : SpanValue) (others : List SpanValue) (pools : List CompiledPool) (bounds : Bounds)
     → AreBoundsOf (before ++ s ∷ (others ++ all_spans pools)) bounds
     → met_behind s name others pools ≡ met_from bounds s name others pools

@@ -21,7 +21,7 @@ use Rattle.pool_config.specs.SpanIndex.{placed_in, spans_in, IsHolder, AreCut, i
 use Rattle.pool_config.proofs.ItemLaws.{has_left, has_right, has_map, in_list, at_has, in_filter_map, filter_map_in, same_item}
 use Rattle.pool_config.proofs.OnePool.{Placed, item_left, item_right, holder_found, holder_only}
 
--- ---- a search by halves
+-- ---- a search by binary search
 module _ (xs : List PlacedSpan) (n i : ℕ)
     (point : IsPartitionPoint (λ (s : PlacedSpan). nat_le s.low n ≡ true) (λ (s : PlacedSpan). nat_le s.low n ≡ false) xs i) where
   -- a span that has the number is among those that have begun

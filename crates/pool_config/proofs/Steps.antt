@@ -14,7 +14,7 @@ module _ {X : Type 0} where
   pub left_at : (xs : List X) (i : ℕ) (x : X) → i < length xs → x ≡ get_or xs i x → drop i xs ≡ x ∷ drop (i + 1) xs
   left_at xs i x below is = drop_more xs i x below ∙ ap (λ y. y ∷ drop (i + 1) xs) (sym is)
 
-  -- it holds of the item and of those behind it
+  -- it holds of the item and of those after it
   pub holds_at : (P : X → Type 0) (xs : List X) (i : ℕ) (x : X) → i < length xs → x ≡ get_or xs i x → P x → AllByRecursion P (drop (i + 1) xs)
       → AllByRecursion P (drop i xs)
   holds_at P xs i x below is here later = rw (left_at xs i x below is) (here, later)

@@ -1,4 +1,4 @@
--- Clashing advertisements, as they are looked for: of each advertisement in turn, those behind it only where it clashes with some other one.
+-- Clashing advertisements, as they are looked for: of each advertisement in turn, those after it only where it clashes with some other one.
 use Rattle.std.specs.Prelude.{ℕ, List, [], ◌∷◌, find, Option, None, if◌then◌else◌}
 use Rattle.std.specs.Option.{option_map, option_or}
 use Rattle.pool_config.specs.declared.compiled.CompiledBgp.{CompiledBgp}

@@ -1,4 +1,4 @@
--- Overlapping spans, as they are looked for: of each span in turn, those behind it only where it overlaps some other one.
+-- Overlapping spans, as they are looked for: of each span in turn, those after it only where it overlaps some other one.
 use Rattle.std.specs.Prelude.{ℕ, ◌+◌, Bool, List, [], ◌∷◌, find, Option, Some, None, if◌then◌else◌, nat_lt, nat_le}
 use Rattle.std.specs.List.{AllByRecursion, count_by, list_any}
 use Rattle.std.specs.List.Sorted.{IsPermutation}
@@ -33,7 +33,7 @@ abbrev pub meets_another : Bounds → SpanValue → Bool
 meets_another bounds span =
     let of_family = bounds_of span.family bounds in nat_lt (ended_below span.low of_family + 1) (begun_at span.high of_family)
 
--- the span overlaps one of the others, of its own pool, which come first, or of the pools behind
+-- the span overlaps one of the others, of its own pool, which come first, or of the pools after
 abbrev pub met_behind : SpanValue → List ℕ → List SpanValue → List CompiledPool → Option (List ℕ)
 met_behind span name others pools =
     if list_any (overlaps span) others then Some name

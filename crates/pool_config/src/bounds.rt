@@ -11,7 +11,8 @@ use kube_model::both;
 use mlb_base::NoMemory;
 use std::alloc::Global;
 
-/// The numbers that the spans of one family begin with, and those that they end with, both ascending.
+/// The numbers that the spans of one family begin with, and those that they end with, both
+/// ascending.
 #[derive(Drop)]
 struct FamilyBounds {
     lows: Vec<u128>,
@@ -84,8 +85,9 @@ impl Bounds {
         }
     }
 
-    /// Whether the span, which is one of those that are counted, overlaps another one besides itself. All that have begun by its end
-    /// overlap it but those that have ended before it begins.
+    /// Whether the span, which is one of those that are counted, overlaps another one besides
+    /// itself. All that have begun by its end overlap it but those that have ended before it
+    /// begins.
     pub(crate) fn meets_another(&self, span: &Span) -> bool
         ensures test { result ≡ meets_another self.now span.now }
         ensures exact { (spans : List SpanValue) → AreBoundsOf spans self.now

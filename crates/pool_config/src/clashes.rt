@@ -15,14 +15,16 @@ use kube_labels::Text;
 use mlb_base::NoMemory;
 use std::alloc::Global;
 
-/// The later one of the first two advertisements that choose a common pool and have different preferences for one route. What is known
-/// of each pool shows which advertisements clash with another one, so that the others are gone through only for the first of them.
+/// The later one of the first two advertisements that choose a common pool and have different
+/// preferences for one route. What is known of each pool shows which advertisements clash with
+/// another one, so that the others are gone through only for the first of them.
 pub(crate) fn clashing_bgp<'a>(
     alloc: Global,
     pools: &[CompiledPool],
     bgp: &'a [CompiledBgp],
 ) -> Result<Option<&'a Text>, NoMemory>
-    ensures { IfOk result (λ name. option_copied name ≡ first_pair (λ adv. adv.name) (clash pools.now) bgp.now) }
+    ensures { IfOk result (λ name. option_copied name
+        ≡ first_pair (λ adv. adv.name) (clash pools.now) bgp.now) }
 {
     let known = preferences_of(alloc, pools, bgp)?;
     let found = first_clashing(known.as_slice(), pools, bgp);
@@ -82,7 +84,8 @@ fn first_clashing<'a>(
     None
 }
 
-/// Looks behind the advertisement only where it clashes with another one. At the first that does, that one is behind.
+/// Looks after the advertisement only where it clashes with another one. At the first that does,
+/// that one is behind.
 #[tactic(auto, unfolding(crate::specs::Clashing::clashing_from))]
 fn clashing_from<'a>(
     known: &[PoolPreferences<'_>],
@@ -90,7 +93,8 @@ fn clashing_from<'a>(
     advertisement: &CompiledBgp,
     behind: &'a [CompiledBgp],
 ) -> Option<&'a Text>
-    ensures { option_copied result ≡ clashing_from known.now pools.now advertisement.now behind.now }
+    ensures { option_copied result
+        ≡ clashing_from known.now pools.now advertisement.now behind.now }
 {
     if clashes_anywhere(known, advertisement) {
         clashing_with(pools, advertisement, behind)
@@ -104,7 +108,8 @@ fn clashing_with<'a>(
     advertisement: &CompiledBgp,
     behind: &'a [CompiledBgp],
 ) -> Option<&'a Text>
-    ensures { option_copied result ≡ option_map (λ adv. adv.name) (find (clash pools.now advertisement.now) behind.now) }
+    ensures { option_copied result
+        ≡ option_map (λ adv. adv.name) (find (clash pools.now advertisement.now) behind.now) }
 {
     for other in behind {
         if clash(pools, advertisement, other) {

@@ -13,7 +13,9 @@ ghost use Rattle.pool_config.specs.KeySets.{keys_with};
 ghost use Rattle.pool_config.specs.Faults.{is_large_name, counts_as_large, with_large};
 ghost use Rattle.pool_config.specs.Large.{begins_large};
 ghost use Rattle.pool_config.specs.Lists.{named_value, number_in, numbers_in, large_in, larges_in};
-ghost use Rattle.pool_config.specs.Search.{first_name, first_past, is_unknown, is_no_community, is_bad_text, has_bad_value, repeats, names_with, first_repeat};
+ghost use Rattle.pool_config.specs.Search.{first_name, first_past, is_unknown, is_no_community};
+ghost use Rattle.pool_config.specs.Search.{is_bad_text, has_bad_value, repeats, names_with};
+ghost use Rattle.pool_config.specs.Search.{first_repeat};
 
 use crate::large::{begins_large, read_large};
 use crate::numbers::{CommunityNumbers, has_colon, numbers_from, read_number};
@@ -136,7 +138,8 @@ fn past_texts<'a>(
     texts: &mut BTreeSet<Text>,
     bgps: &'a VersionedMap<Text, BgpAdv>,
 ) -> Result<Option<&'a Text>, NoMemory>
-    ensures { IfOk result (λ found. option_copied found ≡ first_past 512 texts.old.keys (named bgps.now)) }
+    ensures { IfOk result (λ found. option_copied found
+        ≡ first_past 512 texts.old.keys (named bgps.now)) }
 {
     for (name, held) in bgps.iter() {
         add_texts(texts, held.object.communities.as_slice())?;
@@ -158,7 +161,8 @@ fn add_texts(held: &mut BTreeSet<Text>, texts: &[Text]) -> Result<(), NoMemory>
 
 /// Puts in a copy of the text. Whether it is new.
 fn put_text(held: &mut BTreeSet<Text>, text: &Text) -> Result<bool, NoMemory>
-    ensures is_new { IfOk result (λ is_new. is_new ≡ not (list_any (is_at (name_cmp text.now)) held.old.keys)) }
+    ensures is_new { IfOk result (λ is_new. is_new
+        ≡ not (list_any (is_at (name_cmp text.now)) held.old.keys)) }
     ensures put { OnOk result (held.new.keys ≡ insert_key name_cmp held.old.keys text.now) }
 {
     let is_new = held.insert(text.copy()?)?;
@@ -171,7 +175,8 @@ pub(crate) fn bgp_of_many_large<'a>(
     communities: &VersionedMap<Text, CommunityList>,
     bgps: &'a VersionedMap<Text, BgpAdv>,
 ) -> Result<Option<&'a Text>, NoMemory>
-    ensures { IfOk result (λ found. option_copied found ≡ first_past 128 [] (map (with_large (named communities.now)) (named bgps.now))) }
+    ensures { IfOk result (λ found. option_copied found
+        ≡ first_past 128 [] (map (with_large (named communities.now)) (named bgps.now))) }
 {
     let mut texts = BTreeSet::new(alloc);
     let found = past_large(communities, &mut texts, bgps);
@@ -179,13 +184,16 @@ pub(crate) fn bgp_of_many_large<'a>(
     found
 }
 
-/// Adds the advertisements' texts of large communities, up to the first one with which there are more than there may be.
+/// Adds the advertisements' texts of large communities, up to the first one with which there are
+/// more than there may be.
 fn past_large<'a>(
     communities: &VersionedMap<Text, CommunityList>,
     texts: &mut BTreeSet<Text>,
     bgps: &'a VersionedMap<Text, BgpAdv>,
 ) -> Result<Option<&'a Text>, NoMemory>
-    ensures { IfOk result (λ found. option_copied found ≡ first_past 128 texts.old.keys (map (with_large (named communities.now)) (named bgps.now))) }
+    ensures { IfOk result (λ found. option_copied found
+        ≡ first_past 128 texts.old.keys
+        (map (with_large (named communities.now)) (named bgps.now))) }
 {
     for (name, held) in bgps.iter() {
         add_large_texts(communities, texts, held.object.communities.as_slice())?;
@@ -201,7 +209,9 @@ fn add_large_texts(
     held: &mut BTreeSet<Text>,
     texts: &[Text],
 ) -> Result<(), NoMemory>
-    ensures { OnOk result (held.new.keys ≡ keys_with name_cmp held.old.keys (filter (counts_as_large (named communities.now)) texts.now)) }
+    ensures { OnOk result (held.new.keys
+        ≡ keys_with name_cmp held.old.keys
+        (filter (counts_as_large (named communities.now)) texts.now)) }
 {
     for text in texts {
         if counts_as_large(communities, text) {
@@ -243,7 +253,9 @@ pub(crate) fn bgp_of_unknown<'a>(
     communities: &VersionedMap<Text, CommunityList>,
     bgps: &'a VersionedMap<Text, BgpAdv>,
 ) -> Option<&'a Text>
-    ensures { option_copied result ≡ first_name (λ adv. list_any (is_unknown (named communities.now)) adv.communities) (named bgps.now) }
+    ensures { option_copied result
+        ≡ first_name (λ adv. list_any (is_unknown (named communities.now)) adv.communities)
+        (named bgps.now) }
 {
     first_name(bgps, |advertisement: &BgpAdv| {
         has_unknown(communities, advertisement.communities.as_slice())
@@ -289,7 +301,8 @@ fn has_no_community(named: &(Text, Text)) -> bool
 
 /// The first advertisement with a text that has a colon, and is neither `A:B` nor `large:A:B:C`.
 pub(crate) fn bgp_of_bad_text(bgps: &VersionedMap<Text, BgpAdv>) -> Option<&Text>
-    ensures { option_copied result ≡ first_name (λ adv. list_any is_bad_text adv.communities) (named bgps.now) }
+    ensures { option_copied result
+        ≡ first_name (λ adv. list_any is_bad_text adv.communities) (named bgps.now) }
 {
     first_name(bgps, |advertisement: &BgpAdv| {
         has_bad_text(advertisement.communities.as_slice())
@@ -326,7 +339,8 @@ fn repeat_among<'a>(
     names: &mut BTreeSet<Text>,
     communities: &'a VersionedMap<Text, CommunityList>,
 ) -> Result<Option<&'a Text>, NoMemory>
-    ensures { IfOk result (λ found. option_copied found ≡ first_repeat names.old.keys (named communities.now)) }
+    ensures { IfOk result (λ found. option_copied found
+        ≡ first_repeat names.old.keys (named communities.now)) }
 {
     for (name, held) in communities.iter() {
         if add_names(names, held.object.values.as_slice())? {
@@ -339,7 +353,8 @@ fn repeat_among<'a>(
 /// Adds the names, up to one that is there already. Whether there is one.
 fn add_names(held: &mut BTreeSet<Text>, values: &[(Text, Text)]) -> Result<bool, NoMemory>
     ensures repeated { IfOk result (λ repeated. repeated ≡ repeats held.old.keys values.now) }
-    ensures added { IfOk result (λ repeated. OnFalse repeated (held.new.keys ≡ names_with held.old.keys values.now)) }
+    ensures added { IfOk result (λ repeated. OnFalse repeated
+        (held.new.keys ≡ names_with held.old.keys values.now)) }
 {
     for (name, _) in values {
         if !put_text(held, name)? {

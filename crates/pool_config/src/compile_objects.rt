@@ -45,11 +45,15 @@ impl From<NoMemory> for CompileFault {
 
 /// The configuration of these objects, or the first fault among them.
 ///
-/// The conditions of a fault are tested in their order, each over all objects, which go by name in the order of its bytes, their
-/// entries and members as they are listed. `Refused` has the fault that holds and that none comes before. Where there is none, each
-/// list has all objects of its kind by name, with their entries, selectors and communities read. `NoMemory` may come at any time.
+/// The conditions of a fault are tested in their order, each over all objects, which go by name in
+/// the order of its bytes, their entries and members as they are listed. `Refused` has the fault
+/// that holds and that none comes before. Where there is none, each list has all objects of its
+/// kind by name, with their entries, selectors and communities read. `NoMemory` may come at any
+/// time.
 pub fn compile(alloc: Global, objects: &ObjectSet) -> Result<Config, CompileFault>
-    ensures accepted { IfOk result (λ config. HasNoFault (objects_of objects.now) × (config ≡ lists_of (objects_of objects.now))) }
+    ensures accepted { IfOk result
+        (λ config. HasNoFault (objects_of objects.now)
+        × (config ≡ lists_of (objects_of objects.now))) }
     ensures refused { IfErr result (λ e. (fault : ConfigFault) → e ≡ CompileFault.Refused fault
         → IsFirstFault (objects_of objects.now) fault) }
     ensures compiled { IfOk result (λ config. compiled objects.now ≡ Ok config) }
@@ -118,7 +122,8 @@ fn checked_index(
 
 /// The refusal of what was found.
 fn refusal(found: Found<'_>) -> CompileFault
-    ensures { (fault : ConfigFault) → result ≡ CompileFault.Refused fault → fault ≡ fault_of found.entry }
+    ensures { (fault : ConfigFault) → result ≡ CompileFault.Refused fault
+        → fault ≡ fault_of found.entry }
 {
     match found.name.copy() {
         Ok(name) => CompileFault::Refused {

@@ -15,7 +15,7 @@ pub struct CompiledPool {
     pub spans: SpanList,
     /// Whether a service that asks for no pool may have an address of this one.
     pub auto_assign: bool,
-    /// Whether IPv4 addresses whose last octet is 0 or 255 are passed over.
+    /// Whether IPv4 addresses whose last octet is 0 or 255 are ignored.
     pub avoid_buggy: bool,
     /// `serviceAllocation`; without it the pool serves every service.
     pub allocation: Option<CompiledAllocation>,

@@ -5,8 +5,9 @@ use ip_ranges::Address;
 use std::alloc::Global;
 use std::marker::Model;
 
-/// A configuration that can be in force. The names in each list ascend by their bytes, so that no two are the same, no two spans
-/// overlap, of one pool or of two, and the advertisements have at most 512 communities and at most 128 large ones, each counted once.
+/// A configuration that can be in force. The names in each list ascend by their bytes, so that no
+/// two are the same, no two spans overlap, of one pool or of two, and the advertisements have at
+/// most 512 communities and at most 128 large ones, each counted once.
 pub struct Config {
     pub pools: PoolList,
     pub l2: L2List,
@@ -66,7 +67,8 @@ impl Config {
         let _ = &self.pools;
     }
 
-    /// The place in `pools` of the one pool that has the address, and `None` where none has it. It takes no memory.
+    /// The place in `pools` of the one pool that has the address, and `None` where none has it. It
+    /// takes no memory.
     pub fn pool_of(&self, address: &Address) -> Option<usize>
         ensures value { result ≡ pool_of self.now.pools address.now }
         ensures found { IfSome result (λ place. (pool : CompiledPool)

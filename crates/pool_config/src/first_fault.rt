@@ -4,7 +4,8 @@ ghost use Rattle.std.specs.Option.{option_map};
 ghost use Rattle.pool_config.specs.Found.{fault_of};
 ghost use Rattle.pool_config.specs.Lists.{lists_of};
 ghost use Rattle.pool_config.specs.Objects.{objects_of};
-ghost use Rattle.pool_config.specs.Search.{found_among, pool_rows, later_rows, overlap_rows, selector_rows, advertised_rows, name_rows};
+ghost use Rattle.pool_config.specs.Search.{found_among, pool_rows, later_rows, overlap_rows};
+ghost use Rattle.pool_config.specs.Search.{selector_rows, advertised_rows, name_rows};
 
 use crate::advertised::{bgp_of_unknown_peer, bgp_too_far};
 use crate::clashes::clashing_bgp;
@@ -47,7 +48,8 @@ pub(crate) fn found_in_pools(
     alloc: Global,
     objects: &ObjectSet,
 ) -> Result<Option<Found<'_>>, NoMemory>
-    ensures { IfOk result (λ found. option_map fault_of found ≡ found_among (objects_of objects.now) pool_rows) }
+    ensures { IfOk result (λ found. option_map fault_of found
+        ≡ found_among (objects_of objects.now) pool_rows) }
 {
     if let Some(name) = name_at(&objects.pools, MOST_POOLS) {
         return Ok(at_fault(Cause::Limit, Kind::Pool, name));
@@ -79,7 +81,8 @@ pub(crate) fn found_beside_pools<'a>(
 ) -> Result<Option<Found<'a>>, NoMemory>
     requires pools { pools.now ≡ (lists_of (objects_of objects.now)).pools }
     requires bgp { bgp.now ≡ (lists_of (objects_of objects.now)).bgp }
-    ensures { IfOk result (λ found. option_map fault_of found ≡ found_among (objects_of objects.now) later_rows) }
+    ensures { IfOk result (λ found. option_map fault_of found
+        ≡ found_among (objects_of objects.now) later_rows) }
 {
     if let Some(name) = overlapping_pool(alloc, pools)? {
         return Ok(at_fault(Cause::Overlap, Kind::Pool, name));
@@ -121,7 +124,8 @@ fn found_in_advertised<'a>(
 ) -> Result<Option<Found<'a>>, NoMemory>
     requires pools { pools.now ≡ (lists_of (objects_of objects.now)).pools }
     requires bgp { bgp.now ≡ (lists_of (objects_of objects.now)).bgp }
-    ensures { IfOk result (λ found. option_map fault_of found ≡ found_among (objects_of objects.now) advertised_rows) }
+    ensures { IfOk result (λ found. option_map fault_of found
+        ≡ found_among (objects_of objects.now) advertised_rows) }
 {
     if let Some(name) = bgp_too_far(pools, bgp) {
         return Ok(at_fault(Cause::Aggregation, Kind::Bgp, name));
@@ -134,7 +138,8 @@ fn found_in_advertised<'a>(
 
 /// By communities, and by the peers that advertisements name.
 fn found_in_names(alloc: Global, objects: &ObjectSet) -> Result<Option<Found<'_>>, NoMemory>
-    ensures { IfOk result (λ found. option_map fault_of found ≡ found_among (objects_of objects.now) name_rows) }
+    ensures { IfOk result (λ found. option_map fault_of found
+        ≡ found_among (objects_of objects.now) name_rows) }
 {
     if let Some(name) = bgp_of_unknown(&objects.communities, &objects.bgps) {
         return Ok(at_fault(Cause::CommunityUnknown, Kind::Bgp, name));

@@ -1,7 +1,8 @@
 //! Texts of large communities.
 ghost use Rattle.std.specs.Prelude.{◌≡◌, ◌↔◌, Some};
 ghost use Rattle.large_numbers.specs.declared.numbers.LargeCommunity.{LargeCommunity as LargeValue};
-ghost use Rattle.pool_config.specs.Large.{IsLargeText, begins_large, large_of, local_of, word_of, words_of};
+ghost use Rattle.pool_config.specs.Large.{IsLargeText, begins_large, large_of, local_of, word_of};
+ghost use Rattle.pool_config.specs.Large.{words_of};
 
 use crate::numbers::{at_colon, is_padded};
 use large_numbers::LargeCommunity;
@@ -13,8 +14,8 @@ pub(crate) fn begins_large(text: &str) -> bool
     text.starts_with("large:")
 }
 
-/// The large community (RFC 8092) that is written `large:A:B:C`, each decimal from 0 to 4294967295 without leading zeros. `None` for
-/// every other text.
+/// The large community (RFC 8092) that is written `large:A:B:C`, each decimal from 0 to 4294967295
+/// without leading zeros. `None` for every other text.
 pub fn read_large(text: &str) -> Option<LargeCommunity>
     ensures value { result ≡ large_of text.now }
     ensures meaning { (c : LargeValue) → (result ≡ Some c) ↔ IsLargeText text.now c }

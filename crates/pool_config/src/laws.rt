@@ -1,6 +1,8 @@
 //! What holds of each set of objects, apart from the code.
-ghost use Rattle.pool_config.specs.Laws.{AcceptedAreReadWhole, AllAreCompiledRight, CommunitiesAreRead, LargesAreRead};
-ghost use Rattle.pool_config.specs.Laws.{LargeTextsAreRead, NamesAreKept, NumbersAreRead, RemovesTakeOut, SetsPutInPlace};
+ghost use Rattle.pool_config.specs.Laws.{AcceptedAreReadWhole, AllAreCompiledRight};
+ghost use Rattle.pool_config.specs.Laws.{CommunitiesAreRead, LargesAreRead};
+ghost use Rattle.pool_config.specs.Laws.{LargeTextsAreRead, NamesAreKept, NumbersAreRead};
+ghost use Rattle.pool_config.specs.Laws.{RemovesTakeOut, SetsPutInPlace};
 
 /// A set is compiled to a fault exactly where that is its first one, and else to its lists.
 pub fn objects_are_compiled()
@@ -17,14 +19,14 @@ pub fn numbers_are_read()
     ensures { NumbersAreRead }
 {}
 
-/// The numbers of an advertisement's communities ascend, each once, and are exactly those that its texts
-/// stand for.
+/// The numbers of an advertisement's communities ascend, each once, and are exactly those that its
+/// texts stand for.
 pub fn communities_are_read()
     ensures { CommunitiesAreRead }
 {}
 
-/// The texts that are large communities are those of the form `large:A:B:C`, and those of an advertisement ascend, each once, and are
-/// exactly those that its texts stand for.
+/// The texts that are large communities are those of the form `large:A:B:C`, and those of an
+/// advertisement ascend, each once, and are exactly those that its texts stand for.
 pub fn larges_are_read()
     ensures texts { LargeTextsAreRead }
     ensures lists { LargesAreRead }

@@ -1,4 +1,8 @@
 //! The configuration: its objects, and what they are compiled to.
+//!
+//! The name of an object is the key that it is held under. `ObjectSet::remove` takes a `Text`,
+//! since a map with such keys can't be asked by `&str`, and `set` skips objects of other
+//! kinds.
 #![tactic(auto)]
 
 mod advertised;

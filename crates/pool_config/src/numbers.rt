@@ -3,7 +3,8 @@ ghost use Rattle.std.specs.Prelude.{◌≡◌, ◌↔◌, ℕ, [], IfOk, IfSome,
 ghost use Rattle.std.specs.List.{before_first, after_first};
 ghost use Rattle.std.specs.Ordering.{nat_cmp};
 ghost use Rattle.std.specs.List.Sorted.{IsStrictlySortedBy};
-ghost use Rattle.pool_config.specs.Numbers.{IsNumberText, number_of, half_of, has_colon, is_colon, is_padded, ascending_with};
+ghost use Rattle.pool_config.specs.Numbers.{IsNumberText, number_of, half_of, has_colon, is_colon};
+ghost use Rattle.pool_config.specs.Numbers.{is_padded, ascending_with};
 
 use mlb_base::{NoMemory, Sequence, TryCopy};
 use std::alloc::Global;
@@ -69,7 +70,7 @@ pub(crate) fn has_colon(text: &str) -> bool
     text.as_bytes().contains(&b':')
 }
 
-/// The text before the first colon and the one behind it.
+/// The text before the first colon and the one after it.
 pub(crate) fn at_colon(text: &str) -> Option<(&str, &str)>
     ensures before { IfSome result (λ parts. parts.0.now ≡ before_first is_colon text.now) }
     ensures behind { IfSome result (λ parts. parts.1.now ≡ after_first is_colon text.now) }
@@ -79,8 +80,8 @@ pub(crate) fn at_colon(text: &str) -> Option<(&str, &str)>
     Some((before, behind))
 }
 
-/// The number of a community (RFC 1997) that is written `A:B`, both decimal from 0 to 65535 without leading zeros: A times 65536
-/// plus B. `None` for every other text.
+/// The number of a community (RFC 1997) that is written `A:B`, both decimal from 0 to 65535 without
+/// leading zeros: A times 65536 plus B. `None` for every other text.
 pub fn read_number(text: &str) -> Option<u32>
     ensures value { result ≡ number_of text.now }
     ensures meaning { (n : ℕ) → (result ≡ Some n) ↔ IsNumberText text.now n }

@@ -1,7 +1,8 @@
 //! The objects that make a configuration.
 ghost use Rattle.std.specs.Prelude.{◌≡◌, [], IfOk, IsOkAnd, OnOk, OnErr};
 ghost use Rattle.kube_labels.specs.Names.{name_cmp};
-ghost use Rattle.pool_config.specs.Objects.{no_objects, set_shown, set_shows, set_put, put_at, set_without, set_expired, set_listed};
+ghost use Rattle.pool_config.specs.Objects.{no_objects, set_shown, set_shows, set_put, put_at};
+ghost use Rattle.pool_config.specs.Objects.{set_without, set_expired, set_listed};
 ghost use Rattle.versioned_map.specs.Objects.{is_newer, shown};
 
 use kube_labels::Text;
@@ -10,8 +11,9 @@ use mlb_base::{NoMemory, TryCopy};
 use std::alloc::Global;
 use versioned_map::{Shown, VersionedMap};
 
-/// The objects that make a configuration (MetalLB's IPAddressPools, L2Advertisements, BGPAdvertisements, BGPPeers and Communities),
-/// of each kind by name, each at the version that it was last shown with.
+/// The objects that make a configuration (MetalLB's IPAddressPools, L2Advertisements,
+/// BGPAdvertisements, BGPPeers and Communities), of each kind by name, each at the version that it
+/// was last shown with.
 pub struct ObjectSet {
     pub pools: VersionedMap<Text, Pool>,
     pub l2s: VersionedMap<Text, L2Adv>,
@@ -46,8 +48,8 @@ impl ObjectSet {
         }
     }
 
-    /// An object is shown; one that isn't newer than the held one is passed over, as is one of another kind. Whether it is
-    /// held now. After want of memory the set is unchanged.
+    /// An object is shown; one that isn't newer than the held one is ignored, as is one of another
+    /// kind. Whether it is held now. Where memory ran out the set is unchanged.
     pub fn show(&mut self, version: u64, object: Object) -> Result<bool, NoMemory>
         ensures is_held { IfOk result (λ is_held. is_held ≡ set_shows self.old version object) }
         ensures ok { OnOk result (self.new ≡ set_shown self.old version object) }
@@ -81,8 +83,8 @@ impl ObjectSet {
         }
     }
 
-    /// The object is put in place of the one of its kind and name, at the version that was held; one of another kind is passed
-    /// over. After want of memory the set is unchanged.
+    /// The object is put in place of the one of its kind and name, at the version that was held;
+    /// one of another kind is passed over. Where memory ran out the set is unchanged.
     pub fn set(&mut self, object: Object) -> Result<(), NoMemory>
         ensures ok { OnOk result (self.new ≡ set_put self.old object) }
         ensures err { OnErr result (self.new ≡ self.old) }
@@ -106,7 +108,8 @@ impl ObjectSet {
         }
     }
 
-    /// The object of the kind and name isn't there any more; every other one stays. It takes no memory.
+    /// The object of the kind and name isn't there any more; every other one stays. It takes no
+    /// memory.
     pub fn remove(&mut self, kind: Kind, name: &Text)
         ensures { self.new ≡ set_without self.old kind name.now }
     {
@@ -170,8 +173,10 @@ fn show_named<T: Drop>(
     version: u64,
     object: T,
 ) -> Result<bool, NoMemory>
-    ensures is_held { IfOk result (λ is_held. IsOkAnd name (λ n. is_held ≡ is_newer name_cmp held.old n version)) }
-    ensures ok { OnOk result (IsOkAnd name (λ n. held.new ≡ shown name_cmp held.old n version object)) }
+    ensures is_held { IfOk result (λ is_held. IsOkAnd name
+        (λ n. is_held ≡ is_newer name_cmp held.old n version)) }
+    ensures ok { OnOk result (IsOkAnd name
+        (λ n. held.new ≡ shown name_cmp held.old n version object)) }
     ensures err { OnErr result (held.new ≡ held.old) }
 {
     match held.show(name?, version, object)? {

@@ -16,7 +16,8 @@ struct Preferences {
     by_length: BTreeMap<u8, Option<u32>>,
 }
 
-/// The preferences of the advertisements that choose a pool, by how long their prefixes of each family are.
+/// The preferences of the advertisements that choose a pool, by how long their prefixes of each
+/// family are.
 #[derive(Drop)]
 pub(crate) struct PoolPreferences<'a> {
     pool: &'a CompiledPool,
@@ -72,7 +73,8 @@ impl Preferences {
 }
 
 impl<'a> PoolPreferences<'a> {
-    ghost use Rattle.pool_config.specs.Preferences.{KnowsEach, KnowsPool, Notes, are_several_at, clashes_at, of_family};
+    ghost use Rattle.pool_config.specs.Preferences.{KnowsEach, KnowsPool, Notes, are_several_at};
+    ghost use Rattle.pool_config.specs.Preferences.{clashes_at, of_family};
     ghost use Rattle.std.specs.List.{list_any};
 
     /// Those of the advertisements that choose the pool.
@@ -132,7 +134,8 @@ impl<'a> PoolPreferences<'a> {
         advertisement.chooses(self.pool) && self.are_several(advertisement)
     }
 
-    /// Whether advertisements of a length of this one have several preferences, for a family of which the pool has an entry.
+    /// Whether advertisements of a length of this one have several preferences, for a family of
+    /// which the pool has an entry.
     fn are_several(&self, advertisement: &CompiledBgp) -> bool
         ensures { result ≡ are_several_at advertisement.now self.now }
     {

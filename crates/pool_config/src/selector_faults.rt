@@ -3,7 +3,8 @@ ghost use Rattle.std.specs.Prelude.{◌≡◌, ◌++◌, IfOk, option_map};
 ghost use Rattle.std.specs.Option.{option_copied};
 ghost use Rattle.pool_config.specs.Objects.{named};
 ghost use Rattle.pool_config.specs.Lists.{read_selector, selectors_of};
-ghost use Rattle.pool_config.specs.Search.{first_name, has_bad_selector, has_bad_allocation, has_bad_in_l2};
+ghost use Rattle.pool_config.specs.Search.{first_name, has_bad_selector, has_bad_allocation};
+ghost use Rattle.pool_config.specs.Search.{has_bad_in_l2};
 ghost use Rattle.pool_config.specs.Search.{has_bad_in_bgp, has_bad_in_peer};
 
 use crate::search::first_name;

@@ -1,5 +1,7 @@
-//! The spans of a configuration in order, by which the pool of an address is found by halves.
-ghost use Rattle.std.specs.Prelude.{◌≡◌, ◌≤◌, true, false, ◌++◌, [], length, nat_le, IfOk, OnOk, IfSome, IfNone};
+//! The spans of a configuration in order, by which the pool of an address is found by binary
+//! search.
+ghost use Rattle.std.specs.Prelude.{◌≡◌, ◌≤◌, true, false, ◌++◌, [], length, nat_le, IfOk, OnOk};
+ghost use Rattle.std.specs.Prelude.{IfSome, IfNone};
 ghost use Rattle.std.specs.List.Sorted.{IsPermutation, IsNonDecreasingBy, IsPartitionPoint};
 
 use crate::compiled::CompiledPool;
@@ -50,7 +52,8 @@ impl FamilyIndex {
 
     /// Those spans of the pools that are of the family.
     fn new(alloc: Global, pools: &[CompiledPool], family: Family) -> Result<FamilyIndex, NoMemory>
-        ensures { IfOk result (λ index. IsPermutation (spans_in family 0 pools.now) index.spans.items) }
+        ensures { IfOk result (λ index. IsPermutation
+            (spans_in family 0 pools.now) index.spans.items) }
     {
         let mut spans = Vec::new(alloc);
         FamilyIndex::push_pools(&mut spans, pools, family)?;
@@ -77,7 +80,8 @@ impl FamilyIndex {
         family: Family,
         pool: usize,
     ) -> Result<(), NoMemory>
-        ensures { OnOk result (spans.new.items ≡ spans.old.items ++ filter_map (placed_in family pool) all.now) }
+        ensures { OnOk result (spans.new.items
+            ≡ spans.old.items ++ filter_map (placed_in family pool) all.now) }
     {
         for span in all {
             if span.family == family {
@@ -94,12 +98,14 @@ impl FamilyIndex {
     /// How many spans begin at the number or below it. They stand before all others.
     fn begun(&self, number: u128) -> usize
         ensures bound { result ≤ length self.now.spans.items }
-        ensures parts { IsPartitionPoint (λ span. nat_le span.low number ≡ true) (λ span. nat_le span.low number ≡ false) self.now.spans.items result }
+        ensures parts { IsPartitionPoint (λ span. nat_le span.low number ≡ true)
+            (λ span. nat_le span.low number ≡ false) self.now.spans.items result }
     {
         self.spans.partition_point(|span| span.low <= number)
     }
 
-    /// The pool of the last span that begins at the number or below it, where that span has the number.
+    /// The pool of the last span that begins at the number or below it, where that span has the
+    /// number.
     fn holder(&self, number: u128) -> Option<usize>
         ensures found { IfSome result (IsHolder self.now.spans.items number) }
         ensures none { IfNone result (AreCut self.now.spans.items number) }
@@ -153,8 +159,10 @@ impl SpanIndex {
 
     /// The place of the pool that has the address, where no two spans overlap.
     pub(crate) fn holder(&self, address: &Address) -> Option<usize>
-        ensures found { IfSome result (IsHolder (index_of address.now.family self.now).spans.items address.now.number) }
-        ensures none { IfNone result (AreCut (index_of address.now.family self.now).spans.items address.now.number) }
+        ensures found { IfSome result (IsHolder
+            (index_of address.now.family self.now).spans.items address.now.number) }
+        ensures none { IfNone result (AreCut
+            (index_of address.now.family self.now).spans.items address.now.number) }
     {
         self.of_family(address.family).holder(address.number)
     }

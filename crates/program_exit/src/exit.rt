@@ -6,7 +6,8 @@ ghost use Rattle.kube_model.specs.Status.{status_code};
 use kube_model::Status;
 use std::process::ExitCode;
 
-/// The exit status that says why the program ends. The text of the status goes to standard error first, but for one that is done.
+/// The exit status that says why the program ends. The text of the status goes to standard error
+/// first, but for one that is done.
 pub fn exit_code(rt: &HostRuntime, status: &Status) -> ExitCode
     ensures { exit_status result ≡ status_code status.now }
 {

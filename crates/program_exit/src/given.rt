@@ -10,15 +10,15 @@ use std::io;
 /// The words of the command line, the files of the system, and standard input and output.
 #[derive(Drop)]
 pub struct Given<'a> {
-    /// The words behind the program's name.
+    /// The words after the program's name.
     pub words: Vec<String>,
     pub files: RealFiles<HostRuntime>,
     pub input: RealSource<io::StdinLock<'a>>,
     pub out: RealSink<io::Printer<'a, HostRuntime>>,
 }
 
-/// What the process gives to a program that reads files too. `Usage` and `NoMemory` as of `words_given`, and `NoMemory` also where there is
-/// none for the files.
+/// What the process gives to a program that reads files too. `Usage` and `NoMemory` as of
+/// `words_given`, and `NoMemory` also where there is none for the files.
 pub fn given_by(rt: &HostRuntime) -> Result<Given<'_>, Status>
     ensures { IfErr result (λ status. (status ≡ NoMemory) ⊎ (status ≡ Usage)) }
 {

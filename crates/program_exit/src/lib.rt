@@ -1,4 +1,5 @@
-//! What each program takes of its process, and how it ends: the words of its command line, the files of the system, and its exit status.
+//! What each program takes of its process, and how it ends: the words of its command line, the
+//! files of the system, and its exit status.
 #![tactic(auto)]
 
 mod exit;

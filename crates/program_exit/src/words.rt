@@ -6,7 +6,7 @@ use kube_model::Status;
 use std::rt::Env;
 use std::{env, io};
 
-/// The words behind the program's name.
+/// The words after the program's name.
 ///
 /// `Usage` says that one isn't UTF-8, and so is no word of any table, `NoMemory` that there is no memory for them.
 pub fn words_given(rt: &(impl Env + AllocGlobal)) -> Result<Vec<String>, Status>

@@ -1,4 +1,5 @@
-//! What the programs read and write alike: the event of a line, a line that is no reply, and what is told of a configuration.
+//! What the programs read and write alike: the event of a line, a line that is no reply, and what
+//! is told of a configuration.
 #![tactic(auto)]
 
 mod event;

@@ -1,6 +1,6 @@
 -- What a fence comes to, whatever it is told (docs/BRIDGE.md, "The fence").
-use Rattle.std.specs.Prelude.{◌==◌, ◌&&◌, ◌+◌, ℕ, Bool, true, false, if◌then◌else◌, List, [], ◌∷◌}
-use Rattle.std.specs.Prelude.{Option, Some, None, nat_lt, slice_get}
+use Rattle.std.specs.Prelude.{◌==◌, ◌&&◌, ◌||◌, ◌+◌, ◌++◌, ℕ, Bool, true, false, if◌then◌else◌}
+use Rattle.std.specs.Prelude.{List, [], ◌∷◌, Option, Some, None, length, nat_le, nat_lt, slice_get}
 use Rattle.std.specs.List.{list_any}
 use Rattle.std.specs.Str.{bytes_eq}
 use Rattle.kube_model.specs.Keys.{same_key}
@@ -26,6 +26,7 @@ use Rattle.put_fence.specs.declared.stage.LeaseCall.TheVariants.{Idle, Read, Cha
 use Rattle.put_fence.specs.declared.stage.Stage.{Stage}
 use Rattle.put_fence.specs.declared.stage.Stage.TheVariants.{Waiting, Fencing, Listing, Free}
 use Rattle.put_fence.specs.declared.stage.Stage.TheVariants.{Naming, Sent, Checking, Lost}
+use Rattle.put_fence.specs.declared.stage.Stage.TheVariants.{Chasing, Relisting}
 
 -- ---- what it knows
 
@@ -53,6 +54,35 @@ abbrev pub named_in : Option Lease → List ServiceVersion
 named_in None = []
 named_in (Some lease) = lease.named
 
+abbrev pub is_of : Put → ServiceVersion → Bool
+is_of put n = same_key n.key put.key
+
+-- the put is of the service of one that is owed
+abbrev pub is_owed : Put → Known → Bool
+is_owed put k = list_any (is_of put) k.owed
+
+-- as many as may be are owed
+abbrev pub is_full : Known → Bool
+is_full k = nat_le 1000 (length k.owed)
+
+-- what is owed, and this put
+abbrev pub owed_and : Put → Known → List ServiceVersion
+owed_and put k = k.owed ++ named_by put ∷ []
+
+-- this put is owed too
+abbrev pub owes : Put → Known → Known
+owes put k = record k { owed = owed_and put k }
+
+-- the first isn't owed any more
+abbrev pub but_first : List ServiceVersion → List ServiceVersion
+but_first [] = []
+but_first (n ∷ more) = more
+
+-- the first stands after the others
+abbrev pub first_last : List ServiceVersion → List ServiceVersion
+first_last [] = []
+first_last (n ∷ more) = more ++ n ∷ []
+
 -- the service that is fenced, where one is
 abbrev pub checked : Stage → Known → Option ServiceVersion
 checked (Waiting call) k = None
@@ -61,7 +91,9 @@ checked Listing k = None
 checked (Free call) k = None
 checked (Naming put call) k = None
 checked (Sent put) k = None
-checked (Checking put call) k = Some (named_by put)
+checked (Checking put call tries) k = Some (named_by put)
+checked (Chasing call put) k = slice_get k.owed 0
+checked Relisting k = None
 checked Lost k = None
 
 -- ---- what is to be done
@@ -95,10 +127,10 @@ fencing next k = fencing_from (slice_get (named_in k.seen) next) next k
 abbrev pub may_send : Put → Lease → Known → Bool
 may_send put lease k = is_quiet k lease && is_named put lease.named
 
--- the put is sent, or it is to be named first
+-- the put is sent, or it is to be named first, beside what is owed
 abbrev pub sending_by : Bool → Put → ℕ → Known → Taken
 sending_by true put version k = to (Sent put) (outputs.Ask requests.Patch) k
-sending_by false put version k = asking version (named_by put ∷ []) (Naming put Change) k
+sending_by false put version k = asking version (owed_and put k) (Naming put Change) k
 
 abbrev pub sending : Put → Lease → Known → Taken
 sending put lease k = sending_by (may_send put lease k) put lease.version k
@@ -155,11 +187,41 @@ way_of put (Some lease) k =
     if is_own k lease then Some (lease.version, may_send put lease k) else None
 
 -- a put that comes while a request for the Lease is under way awaits its answer
+abbrev pub wanted_free : LeaseCall → Put → Known → Taken
+wanted_free Idle put k = wanted_by k.seen put k
+wanted_free Read put k = to (Naming put Read) outputs.Nothing k
+wanted_free Change put k = to (Naming put Change) outputs.Nothing k
+
+-- Of a service of which a put is owed none is sent, and none at all where as many as may be are
+-- owed: `stale`. One that comes while a put that is owed is fenced awaits the answer.
 abbrev pub wanted : Stage → Put → Known → Taken
-wanted (Free Idle) put k = wanted_by k.seen put k
-wanted (Free Read) put k = to (Naming put Read) outputs.Nothing k
-wanted (Free Change) put k = to (Naming put Change) outputs.Nothing k
+wanted (Free call) put k =
+    if is_owed put k || is_full k then to (Free call) (outputs.Reply replies.Stale) k
+    else wanted_free call put k
+wanted (Chasing call None) put k =
+    if is_owed put k || is_full k then to (Chasing call None) (outputs.Reply replies.Stale) k
+    else to (Chasing call (Some put)) outputs.Nothing k
 wanted stage put k = unexpected stage k
+
+-- ---- what is owed, and the list
+
+-- the first that is owed is fenced
+abbrev pub chased_by : List ServiceVersion → Known → Taken
+chased_by [] k = to (Free Idle) outputs.Nothing k
+chased_by (n ∷ more) k = to (Chasing checks.Get None) (outputs.Ask requests.Get) k
+
+abbrev pub chased : Stage → Known → Taken
+chased (Free Idle) k = chased_by k.owed k
+chased stage k = to stage outputs.Nothing k
+
+-- the services are listed anew where nothing is owed
+abbrev pub relisted_by : List ServiceVersion → Known → Taken
+relisted_by [] k = to Relisting (outputs.Ask requests.List) k
+relisted_by (n ∷ more) k = to (Free Idle) outputs.Nothing k
+
+abbrev pub relisted : Stage → Known → Taken
+relisted (Free Idle) k = relisted_by k.owed k
+relisted stage k = to stage outputs.Nothing k
 
 -- ---- answers about the Lease
 
@@ -215,7 +277,7 @@ shows_gone at answers.Missing = true
 shows_gone at answers.Refused = false
 shows_gone at answers.Unknown = false
 
--- a service that is read and isn't later is changed; behind anything else it is read
+-- a service that is read and isn't later is changed; after anything else it is read
 abbrev pub check_behind : CheckCall → Answer → CheckCall
 check_behind checks.Get (answers.At version) = checks.Touch
 check_behind call answer = checks.Get
@@ -249,22 +311,58 @@ listing_told answers.Missing k = to Listing (outputs.Again requests.List) k
 listing_told answers.Refused k = to Listing (outputs.Again requests.List) k
 listing_told answers.Unknown k = to Listing (outputs.Again requests.List) k
 
+abbrev pub relisting_told : Answer → Known → Taken
+relisting_told (answers.Lease lease) k = unexpected Relisting k
+relisting_told (answers.At version) k = unexpected Relisting k
+relisting_told answers.Listed k = to (Free Idle) outputs.Nothing k
+relisting_told answers.Missing k = to Relisting (outputs.Again requests.List) k
+relisting_told answers.Refused k = to Relisting (outputs.Again requests.List) k
+relisting_told answers.Unknown k = to Relisting (outputs.Again requests.List) k
+
 -- `ok` where the put was answered with success; else it is fenced
 abbrev pub sent_told : Put → Answer → Known → Taken
 sent_told put (answers.Lease lease) k = unexpected (Sent put) k
 sent_told put (answers.At version) k = to (Free Idle) (outputs.Reply (replies.Ok version)) k
 sent_told put answers.Listed k = unexpected (Sent put) k
-sent_told put answers.Missing k = to (Checking put checks.Get) (outputs.Ask requests.Get) k
-sent_told put answers.Refused k = to (Checking put checks.Get) (outputs.Ask requests.Get) k
-sent_told put answers.Unknown k = to (Checking put checks.Get) (outputs.Ask requests.Get) k
+sent_told put answers.Missing k = to (Checking put checks.Get 0) (outputs.Ask requests.Get) k
+sent_told put answers.Refused k = to (Checking put checks.Get 0) (outputs.Ask requests.Get) k
+sent_told put answers.Unknown k = to (Checking put checks.Get 0) (outputs.Ask requests.Get) k
+
+-- Where the service is to be read once more a try has come to nothing. After three of them the put
+-- is owed, and answered `unknown` too.
+abbrev pub checking_on : CheckCall → Put → ℕ → Known → Taken
+checking_on checks.Touch put tries k =
+    to (Checking put checks.Touch tries) (outputs.Ask requests.Touch) k
+checking_on checks.Get put tries k =
+    if nat_lt tries 2 then to (Checking put checks.Get (tries + 1)) (outputs.Ask requests.Get) k
+    else to (Free Idle) (outputs.Reply replies.Unknown) (owes put k)
 
 -- `unknown` once the put can't be carried out any more
-abbrev pub checking_told : Put → CheckCall → Answer → Known → Taken
-checking_told put call answer k =
-    if is_other answer then unexpected (Checking put call) k
+abbrev pub checking_told : Put → CheckCall → ℕ → Answer → Known → Taken
+checking_told put call tries answer k =
+    if is_other answer then unexpected (Checking put call tries) k
     else (if shows_gone put.version answer then to (Free Idle) (outputs.Reply replies.Unknown) k
-    else to (Checking put (check_behind call answer))
-    (outputs.Ask (check_request (check_behind call answer))) k)
+    else checking_on (check_behind call answer) put tries k)
+
+-- then the put that was awaited is looked at, where there is one
+abbrev pub behind_chase : Option Put → Known → Taken
+behind_chase None k = to (Free Idle) outputs.Nothing k
+behind_chase (Some put) k = wanted_by k.seen put k
+
+-- what can't be fenced stands after the others
+abbrev pub chasing_on : CheckCall → Option Put → Known → Taken
+chasing_on checks.Touch put k = to (Chasing checks.Touch put) (outputs.Ask requests.Touch) k
+chasing_on checks.Get put k = behind_chase put (record k { owed = first_last k.owed })
+
+-- what is gone isn't owed any more
+abbrev pub chasing_told
+    : Option ServiceVersion → CheckCall → Option Put → Answer → Known → Taken
+chasing_told None call put answer k = unexpected (Chasing call put) k
+chasing_told (Some n) call put answer k =
+    if is_other answer then unexpected (Chasing call put) k
+    else (if shows_gone n.version answer
+    then behind_chase put (record k { owed = but_first k.owed })
+    else chasing_on (check_behind call answer) put k)
 
 -- an answer where none is awaited is unexpected
 abbrev pub answered : Stage → Answer → Known → Taken
@@ -281,7 +379,9 @@ answered (Naming put Idle) answer k = unexpected (Naming put Idle) k
 answered (Naming put Read) answer k = naming_told put Read answer k
 answered (Naming put Change) answer k = naming_told put Change answer k
 answered (Sent put) answer k = sent_told put answer k
-answered (Checking put call) answer k = checking_told put call answer k
+answered (Checking put call tries) answer k = checking_told put call tries answer k
+answered (Chasing call put) answer k = chasing_told (slice_get k.owed 0) call put answer k
+answered Relisting answer k = relisting_told answer k
 answered Lost answer k = unexpected Lost k
 
 -- ---- all of it
@@ -290,11 +390,13 @@ answered Lost answer k = unexpected Lost k
 abbrev pub started : List ℕ → Taken
 started name =
     to (Waiting Read) (outputs.Ask requests.ReadLease)
-    (record { name = name; seen = None; asked = record { at = 0; named = [] } })
+    (record { name = name; seen = None; asked = record { at = 0; named = [] }; owed = [] })
 
 abbrev pub taken : Input → Fence → Taken
 taken inputs.Tick f = ticked f.stage f.known
 taken inputs.Renew f = renewed f.stage f.known
 taken (inputs.Lapsed version) f = lapsed f.stage version f.known
+taken inputs.Chase f = chased f.stage f.known
+taken inputs.Relist f = relisted f.stage f.known
 taken (inputs.Put put) f = wanted f.stage put f.known
 taken (inputs.Answer answer) f = answered f.stage answer f.known

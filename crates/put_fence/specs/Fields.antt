@@ -17,6 +17,8 @@ abbrev pub told_named : List ℕ → Option Told
 told_named name = if bytes_eq name (codes "tick") then Some told.Tick else
     if bytes_eq name (codes "renew") then Some told.Renew else
     if bytes_eq name (codes "lapsed") then Some told.Lapsed else
+    if bytes_eq name (codes "chase") then Some told.Chase else
+    if bytes_eq name (codes "relist") then Some told.Relist else
     if bytes_eq name (codes "lease") then Some told.Lease else
     if bytes_eq name (codes "at") then Some told.At else
     if bytes_eq name (codes "listed") then Some told.Listed else
@@ -67,6 +69,8 @@ abbrev pub input_by : Told → Data → Result Input Path
 input_by told.Tick d = Ok inputs.Tick
 input_by told.Renew d = Ok inputs.Renew
 input_by told.Lapsed d = lapsed_at (version_in d)
+input_by told.Chase d = Ok inputs.Chase
+input_by told.Relist d = Ok inputs.Relist
 input_by told.Lease d = lease_told (lease_of d)
 input_by told.At d = at_told (version_in d)
 input_by told.Listed d = Ok (inputs.Answer answers.Listed)

@@ -30,6 +30,11 @@ pub enum Input {
     Renew,
     /// The Lease counts as given up, which has stayed at this version.
     Lapsed { version: u64 },
+    /// It is time to fence a put that is owed.
+    Chase,
+    /// The services are to be listed anew. That is done where nothing is owed and no request is
+    /// under way, and is to be told again until then.
+    Relist,
     /// The program wants a put.
     Put { put: Put },
     /// What was asked for is answered.

@@ -1,17 +1,21 @@
 //! What comes of an answer, stage by stage.
 ghost use Rattle.std.specs.Prelude.{◌≡◌, IfOk, slice_get};
-ghost use Rattle.put_fence.specs.Fences.{check_behind, check_request, checking_told, fencing_told};
+ghost use Rattle.put_fence.specs.Fences.{behind_chase, chasing_on, chasing_told, check_behind};
+ghost use Rattle.put_fence.specs.Fences.{check_request, checking_on, checking_told, fencing_told};
 ghost use Rattle.put_fence.specs.Fences.{free_told, is_other, lease_request, listing_told};
-ghost use Rattle.put_fence.specs.Fences.{naming_told, named_in, sent_told, shows_gone, to};
-ghost use Rattle.put_fence.specs.Fences.{waiting_told};
+ghost use Rattle.put_fence.specs.Fences.{naming_told, named_in, relisting_told, sent_told};
+ghost use Rattle.put_fence.specs.Fences.{shows_gone, to, waiting_told};
 
 use crate::answer::Answer;
+use crate::fence::wanted_by;
 use crate::known::Known;
 use crate::output::{Output, Request, Taken};
 use crate::stage::{CheckCall, LeaseCall, Stage};
 use kube_model::{Put, PutReply};
 use mlb_base::NoMemory;
-use std::alloc::Global;
+
+/// After so many tries that came to nothing, and one more, a put that can't be fenced is owed.
+const TRIES_BEFORE_LAST: u8 = 2;
 
 /// The request that a call makes.
 fn lease_request(call: LeaseCall) -> Request
@@ -87,7 +91,6 @@ pub(crate) fn free_told(call: LeaseCall, answer: Answer, known: Known) -> Taken
 
 /// The put is sent once the Lease was read to name it.
 pub(crate) fn naming_told(
-    alloc: Global,
     put: Put,
     call: LeaseCall,
     answer: Answer,
@@ -102,7 +105,7 @@ pub(crate) fn naming_told(
             }
             let may_send = known.may_send(&put, &lease);
             let version = lease.version;
-            known.reads(lease).sending(alloc, put, version, may_send)
+            known.reads(lease).sending(put, version, may_send)
         }
         Answer::Missing => Ok(known.to(
             free(LeaseCall::Idle),
@@ -155,7 +158,7 @@ fn shows_gone(version: u64, answer: &Answer) -> bool
     }
 }
 
-/// A service that is read and isn't later is changed; behind anything else it is read.
+/// A service that is read and isn't later is changed; after anything else it is read.
 fn check_behind(call: CheckCall, answer: &Answer) -> CheckCall
     ensures { result ≡ check_behind call answer.now }
 {
@@ -242,25 +245,119 @@ pub(crate) fn sent_told(put: Put, answer: Answer, known: Known) -> Taken
 
 /// The service of the put is read.
 fn checks(put: Put, known: Known) -> Taken
-    ensures { result ≡ to (Stage.Checking put CheckCall.Get) (Output.Ask Request.Get) known }
+    ensures { result ≡ to (Stage.Checking put CheckCall.Get 0) (Output.Ask Request.Get) known }
 {
-    let call = CheckCall::Get;
-    let request = Request::Get;
-    known.to(Stage::Checking { put, call }, Output::Ask { request })
+    checks_on(put, CheckCall::Get, 0, known)
+}
+
+fn checks_on(put: Put, call: CheckCall, tries: u8, known: Known) -> Taken
+    ensures { result
+        ≡ to (Stage.Checking put call tries) (Output.Ask (check_request call)) known }
+{
+    let request = check_request(call);
+    known.to(
+        Stage::Checking { put, call, tries },
+        Output::Ask { request },
+    )
 }
 
 /// A put that can't be carried out any more is `unknown`.
-pub(crate) fn checking_told(put: Put, call: CheckCall, answer: Answer, known: Known) -> Taken
-    ensures { result ≡ checking_told put call answer known }
+pub(crate) fn checking_told(
+    put: Put,
+    call: CheckCall,
+    tries: u8,
+    answer: Answer,
+    known: Known,
+) -> Result<Taken, NoMemory>
+    ensures { IfOk result (λ t. t ≡ checking_told put call tries answer known) }
 {
     if is_other(&answer) {
-        return known.to(Stage::Checking { put, call }, Output::Unexpected);
+        return Ok(known.to(Stage::Checking { put, call, tries }, Output::Unexpected));
     }
     if shows_gone(put.version, &answer) {
         let reply = PutReply::Unknown;
-        return known.to(free(LeaseCall::Idle), Output::Reply { reply });
+        return Ok(known.to(free(LeaseCall::Idle), Output::Reply { reply }));
     }
-    let call = check_behind(call, &answer);
-    let request = check_request(call);
-    known.to(Stage::Checking { put, call }, Output::Ask { request })
+    checking_on(check_behind(call, &answer), put, tries, known)
+}
+
+/// A put that can't be fenced is owed, and `unknown` too.
+fn checking_on(call: CheckCall, put: Put, tries: u8, known: Known) -> Result<Taken, NoMemory>
+    ensures { IfOk result (λ t. t ≡ checking_on call put tries known) }
+{
+    match call {
+        CheckCall::Touch => Ok(checks_on(put, call, tries, known)),
+        CheckCall::Get => {
+            if tries < TRIES_BEFORE_LAST {
+                return Ok(checks_on(put, call, tries + 1, known));
+            }
+            let reply = PutReply::Unknown;
+            Ok(
+                known
+                    .owes(&put)?
+                    .to(free(LeaseCall::Idle), Output::Reply { reply }),
+            )
+        }
+    }
+}
+
+/// What is gone isn't owed any more.
+pub(crate) fn chasing_told(
+    call: CheckCall,
+    put: Option<Put>,
+    answer: Answer,
+    known: Known,
+) -> Result<Taken, NoMemory>
+    ensures { IfOk result (λ t. t
+        ≡ chasing_told (slice_get known.owed 0) call put answer known) }
+{
+    let Some(version) = known.first_owed().map(|n| n.version) else {
+        return Ok(known.to(Stage::Chasing { call, put }, Output::Unexpected));
+    };
+    if is_other(&answer) {
+        return Ok(known.to(Stage::Chasing { call, put }, Output::Unexpected));
+    }
+    if shows_gone(version, &answer) {
+        return behind_chase(put, known.but_first());
+    }
+    chasing_on(check_behind(call, &answer), put, known)
+}
+
+/// What can't be fenced stands after the others.
+fn chasing_on(call: CheckCall, put: Option<Put>, known: Known) -> Result<Taken, NoMemory>
+    ensures { IfOk result (λ t. t ≡ chasing_on call put known) }
+{
+    match call {
+        CheckCall::Touch => {
+            let request = Request::Touch;
+            Ok(known.to(Stage::Chasing { call, put }, Output::Ask { request }))
+        }
+        CheckCall::Get => behind_chase(put, known.first_last()?),
+    }
+}
+
+/// The put that was awaited is looked at.
+fn behind_chase(put: Option<Put>, known: Known) -> Result<Taken, NoMemory>
+    ensures { IfOk result (λ t. t ≡ behind_chase put known) }
+{
+    match put {
+        None => Ok(known.to(free(LeaseCall::Idle), Output::Nothing)),
+        Some(put) => wanted_by(put, known),
+    }
+}
+
+/// The program goes on with the list.
+pub(crate) fn relisting_told(answer: Answer, known: Known) -> Taken
+    ensures { result ≡ relisting_told answer known }
+{
+    match answer {
+        Answer::Listed => known.to(free(LeaseCall::Idle), Output::Nothing),
+        Answer::Missing | Answer::Refused | Answer::Unknown => known.to(
+            Stage::Relisting,
+            Output::Again {
+                request: Request::List,
+            },
+        ),
+        Answer::Lease { .. } | Answer::At { .. } => known.to(Stage::Relisting, Output::Unexpected),
+    }
 }

@@ -1,13 +1,14 @@
 //! A bridge of one program.
 ghost use Rattle.std.specs.Prelude.{◌≡◌, IfOk};
 ghost use Rattle.std.specs.Option.{option_copied};
-ghost use Rattle.put_fence.specs.Fences.{answered, lapsed, lapsed_by, names_at, own_names, renewed};
-ghost use Rattle.put_fence.specs.Fences.{renewed_by, started, taken, ticked, unexpected};
-ghost use Rattle.put_fence.specs.Fences.{wanted, wanted_by, way_of};
+ghost use Rattle.put_fence.specs.Fences.{answered, chased, lapsed, lapsed_by, names_at, own_names};
+ghost use Rattle.put_fence.specs.Fences.{relisted, renewed, renewed_by, started, taken, ticked};
+ghost use Rattle.put_fence.specs.Fences.{unexpected, wanted, wanted_by, wanted_free, way_of};
 
 use crate::answer::{Answer, Input};
 use crate::answers::{
-    checking_told, fencing_told, free_told, listing_told, naming_told, sent_told, waiting_told,
+    chasing_told, checking_told, fencing_told, free_told, listing_told, naming_told,
+    relisting_told, sent_told, waiting_told,
 };
 use crate::known::Known;
 use crate::lease::{Lease, ServiceVersions};
@@ -39,7 +40,7 @@ impl Fence {
 
     /// The bridge after it was told this, and what is to be done. Where there is no memory, it is
     /// gone.
-    pub fn take(self, alloc: Global, input: Input) -> Result<Taken, NoMemory>
+    pub fn take(self, _alloc: Global, input: Input) -> Result<Taken, NoMemory>
         ensures { IfOk result (λ t. t ≡ taken input self) }
     {
         let Fence { known, stage } = self;
@@ -47,8 +48,10 @@ impl Fence {
             Input::Tick => Ok(ticked(stage, known)),
             Input::Renew => renewed(stage, known),
             Input::Lapsed { version } => lapsed(stage, version, known),
-            Input::Put { put } => wanted(alloc, stage, put, known),
-            Input::Answer { answer } => answered(alloc, stage, answer, known),
+            Input::Chase => Ok(chased(stage, known)),
+            Input::Relist => Ok(relisted(stage, known)),
+            Input::Put { put } => wanted(stage, put, known),
+            Input::Answer { answer } => answered(stage, answer, known),
         }
     }
 }
@@ -137,21 +140,41 @@ fn lapsed_waiting(version: u64, known: Known) -> Result<Taken, NoMemory>
 }
 
 /// The program wants a put.
-fn wanted(alloc: Global, stage: Stage, put: Put, known: Known) -> Result<Taken, NoMemory>
+fn wanted(stage: Stage, put: Put, known: Known) -> Result<Taken, NoMemory>
     ensures { IfOk result (λ t. t ≡ wanted stage put known) }
 {
+    let reply = PutReply::Stale;
     match stage {
-        Stage::Free { call } => match call {
-            LeaseCall::Idle => wanted_free(alloc, put, known),
-            LeaseCall::Read | LeaseCall::Change => {
-                Ok(known.to(Stage::Naming { put, call }, Output::Nothing))
+        Stage::Free { call } => {
+            if known.holds_back(&put) {
+                return Ok(known.to(Stage::Free { call }, Output::Reply { reply }));
             }
-        },
+            wanted_free(call, put, known)
+        }
+        Stage::Chasing { call, put: None } => {
+            if known.holds_back(&put) {
+                return Ok(known.to(Stage::Chasing { call, put: None }, Output::Reply { reply }));
+            }
+            let put = Some(put);
+            Ok(known.to(Stage::Chasing { call, put }, Output::Nothing))
+        }
         stage => Ok(unexpected(stage, known)),
     }
 }
 
-fn wanted_free(alloc: Global, put: Put, known: Known) -> Result<Taken, NoMemory>
+fn wanted_free(call: LeaseCall, put: Put, known: Known) -> Result<Taken, NoMemory>
+    ensures { IfOk result (λ t. t ≡ wanted_free call put known) }
+{
+    match call {
+        LeaseCall::Idle => wanted_by(put, known),
+        LeaseCall::Read | LeaseCall::Change => {
+            Ok(known.to(Stage::Naming { put, call }, Output::Nothing))
+        }
+    }
+}
+
+/// The put is sent, or named first; it is `stale` where the Lease is another's.
+pub(crate) fn wanted_by(put: Put, known: Known) -> Result<Taken, NoMemory>
     ensures { IfOk result (λ t. t ≡ wanted_by known.seen put known) }
 {
     let Some((version, may_send)) = way_of(&put, &known) else {
@@ -159,7 +182,7 @@ fn wanted_free(alloc: Global, put: Put, known: Known) -> Result<Taken, NoMemory>
         let reply = PutReply::Stale;
         return Ok(known.to(Stage::Free { call }, Output::Reply { reply }));
     };
-    known.sending(alloc, put, version, may_send)
+    known.sending(put, version, may_send)
 }
 
 /// The version of the Lease, and whether the put may be sent, where the Lease is one's own.
@@ -172,8 +195,32 @@ fn way_of(put: &Put, known: &Known) -> Option<(u64, bool)>
     }
 }
 
+/// The first put that is owed is fenced, where nothing else is under way.
+fn chased(stage: Stage, known: Known) -> Taken
+    ensures { result ≡ chased stage known }
+{
+    match stage {
+        Stage::Free {
+            call: LeaseCall::Idle,
+        } => known.chased(),
+        stage => known.to(stage, Output::Nothing),
+    }
+}
+
+/// The services are listed anew, where nothing is owed and nothing else is under way.
+fn relisted(stage: Stage, known: Known) -> Taken
+    ensures { result ≡ relisted stage known }
+{
+    match stage {
+        Stage::Free {
+            call: LeaseCall::Idle,
+        } => known.relisted(),
+        stage => known.to(stage, Output::Nothing),
+    }
+}
+
 /// What was asked for is answered.
-fn answered(alloc: Global, stage: Stage, answer: Answer, known: Known) -> Result<Taken, NoMemory>
+fn answered(stage: Stage, answer: Answer, known: Known) -> Result<Taken, NoMemory>
     ensures { IfOk result (λ t. t ≡ answered stage answer known) }
 {
     match stage {
@@ -187,12 +234,14 @@ fn answered(alloc: Global, stage: Stage, answer: Answer, known: Known) -> Result
         }),
         Stage::Naming { put, call } => match call {
             LeaseCall::Idle => Ok(unexpected(Stage::Naming { put, call }, known)),
-            LeaseCall::Read | LeaseCall::Change => naming_told(alloc, put, call, answer, known),
+            LeaseCall::Read | LeaseCall::Change => naming_told(put, call, answer, known),
         },
         Stage::Fencing { call, next } => Ok(fencing_told(call, next, answer, known)),
         Stage::Listing => Ok(listing_told(answer, known)),
         Stage::Sent { put } => Ok(sent_told(put, answer, known)),
-        Stage::Checking { put, call } => Ok(checking_told(put, call, answer, known)),
+        Stage::Checking { put, call, tries } => checking_told(put, call, tries, answer, known),
+        Stage::Chasing { call, put } => chasing_told(call, put, answer, known),
+        Stage::Relisting => Ok(relisting_told(answer, known)),
         Stage::Lost => Ok(unexpected(Stage::Lost, known)),
     }
 }

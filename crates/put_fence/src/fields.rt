@@ -24,6 +24,8 @@ pub(crate) enum Told {
     Tick,
     Renew,
     Lapsed,
+    Chase,
+    Relist,
     Lease,
     At,
     Listed,
@@ -39,6 +41,8 @@ fn told_named(name: &str) -> Option<Told>
         "tick" => Some(Told::Tick),
         "renew" => Some(Told::Renew),
         "lapsed" => Some(Told::Lapsed),
+        "chase" => Some(Told::Chase),
+        "relist" => Some(Told::Relist),
         "lease" => Some(Told::Lease),
         "at" => Some(Told::At),
         "listed" => Some(Told::Listed),
@@ -106,6 +110,8 @@ fn input_by(alloc: Global, told: Told, value: &Value) -> Result<Input, FieldFaul
             let version = version_in(alloc, value)?;
             return Ok(Input::Lapsed { version });
         }
+        Told::Chase => return Ok(Input::Chase),
+        Told::Relist => return Ok(Input::Relist),
         Told::Lease => {
             let lease = Lease::from_value(alloc, value)?;
             Answer::Lease { lease }

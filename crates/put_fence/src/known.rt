@@ -1,8 +1,10 @@
 //! What a bridge knows of the Lease.
-ghost use Rattle.std.specs.Prelude.{◌≡◌, ◌∷◌, [], None, IfOk, slice_get};
+ghost use Rattle.std.specs.Prelude.{◌≡◌, ◌||◌, [], None, IfOk, slice_get};
 ghost use Rattle.std.specs.Option.{option_copied};
-ghost use Rattle.put_fence.specs.Fences.{asking, fencing, is_named, is_own, is_quiet, may_send};
-ghost use Rattle.put_fence.specs.Fences.{named_by, named_in, reads, sending_by, to};
+ghost use Rattle.put_fence.specs.Fences.{asking, but_first, chased_by, fencing, first_last};
+ghost use Rattle.put_fence.specs.Fences.{is_full, is_named, is_owed, is_own, is_quiet, may_send};
+ghost use Rattle.put_fence.specs.Fences.{named_in, owed_and, owes, reads, relisted_by, sending_by};
+ghost use Rattle.put_fence.specs.Fences.{to};
 
 use crate::fence::Fence;
 use crate::lease::{Asked, Lease, ServiceVersion, ServiceVersions};
@@ -22,7 +24,13 @@ pub struct Known {
     pub seen: Option<Lease>,
     /// The last request for it; version 0 before the first.
     pub asked: Asked,
+    /// The puts that were answered `unknown` and may still be carried out, one of a service at
+    /// most: each is named in every request for the Lease until it is seen to be gone.
+    pub owed: ServiceVersions,
 }
+
+/// So many puts are owed at most.
+const MOST_OWED: usize = 1_000;
 
 impl Known {
     pub(crate) fn new(alloc: Global, name: Text) -> Known
@@ -30,6 +38,7 @@ impl Known {
         ensures seen { result.seen ≡ None }
         ensures at { result.asked.at ≡ 0 }
         ensures named { result.asked.named ≡ [] }
+        ensures owed { result.owed ≡ [] }
     {
         Known {
             name,
@@ -38,6 +47,7 @@ impl Known {
                 at: 0,
                 named: Sequence::new(alloc),
             },
+            owed: Sequence::new(alloc),
         }
     }
 
@@ -96,7 +106,7 @@ impl Known {
         self.to(stage, Output::Again { request })
     }
 
-    /// Fences what the Lease names from this place on, and lists the services behind the last.
+    /// Fences what the Lease names from this place on, and lists the services after the last.
     pub(crate) fn fencing(self, next: usize) -> Taken
         ensures { result ≡ fencing next self }
     {
@@ -112,20 +122,14 @@ impl Known {
 
 impl Known {
     /// Sends the put, or asks that the Lease, at this version, name it.
-    pub(crate) fn sending(
-        self,
-        alloc: Global,
-        put: Put,
-        version: u64,
-        may_send: bool,
-    ) -> Result<Taken, NoMemory>
+    pub(crate) fn sending(self, put: Put, version: u64, may_send: bool) -> Result<Taken, NoMemory>
         ensures { IfOk result (λ taken. taken ≡ sending_by may_send put version self) }
     {
         if may_send {
             let request = Request::Patch;
             return Ok(self.to(Stage::Sent { put }, Output::Ask { request }));
         }
-        let named = names_alone(alloc, &put)?;
+        let named = self.owed_and(&put)?;
         let call = LeaseCall::Change;
         Ok(self.asking(version, named, Stage::Naming { put, call }))
     }
@@ -138,16 +142,112 @@ impl Known {
     }
 }
 
-/// The service of the put alone, at the put's version.
-fn names_alone(alloc: Global, put: &Put) -> Result<ServiceVersions, NoMemory>
-    ensures { IfOk result (λ names. names ≡ named_by put.now ∷ []) }
+impl Known {
+    /// What is owed, and this put.
+    fn owed_and(&self, put: &Put) -> Result<ServiceVersions, NoMemory>
+        ensures { IfOk result (λ names. names ≡ owed_and put.now self.now) }
+    {
+        let mut names = self.owed.copy()?;
+        names.push(ServiceVersion {
+            key: put.key.copy()?,
+            version: put.version,
+        })?;
+        Ok(names)
+    }
+
+    /// This put is owed too.
+    pub(crate) fn owes(self, put: &Put) -> Result<Known, NoMemory>
+        ensures { IfOk result (λ known. known ≡ owes put.now self) }
+    {
+        let owed = self.owed_and(put)?;
+        Ok(Known { owed, ..self })
+    }
+
+    /// Whether no put of the service is sent: one of it is owed, or as many as may be are.
+    pub(crate) fn holds_back(&self, put: &Put) -> bool
+        ensures { result ≡ (is_owed put.now self.now || is_full self.now) }
+    {
+        self.is_owed(put) || MOST_OWED <= self.owed.len()
+    }
+
+    fn is_owed(&self, put: &Put) -> bool
+        ensures { result ≡ is_owed put.now self.now }
+    {
+        self.owed.as_slice().iter().any(|n| n.key == put.key)
+    }
+
+    /// The put that is fenced next of those that are owed.
+    pub fn first_owed(&self) -> Option<&ServiceVersion>
+        ensures { option_copied result ≡ slice_get self.now.owed 0 }
+    {
+        self.owed.as_slice().get(0)
+    }
+
+    /// The first isn't owed any more.
+    pub(crate) fn but_first(self) -> Known
+        ensures { result ≡ record self { owed = but_first self.owed } }
+    {
+        let owed = but_first(self.owed);
+        Known { owed, ..self }
+    }
+
+    /// The first that is owed stands after the others.
+    pub(crate) fn first_last(self) -> Result<Known, NoMemory>
+        ensures { IfOk result (λ known. known ≡ record self { owed = first_last self.owed }) }
+    {
+        let owed = first_last(self.owed)?;
+        Ok(Known { owed, ..self })
+    }
+
+    /// Fences the first put that is owed.
+    pub(crate) fn chased(self) -> Taken
+        ensures { result ≡ chased_by self.owed self }
+    {
+        let call = LeaseCall::Idle;
+        if self.owed.is_empty() {
+            return self.to(Stage::Free { call }, Output::Nothing);
+        }
+        let call = CheckCall::Get;
+        let request = Request::Get;
+        self.to(Stage::Chasing { call, put: None }, Output::Ask { request })
+    }
+
+    /// Lists the services anew, where nothing is owed.
+    pub(crate) fn relisted(self) -> Taken
+        ensures { result ≡ relisted_by self.owed self }
+    {
+        let call = LeaseCall::Idle;
+        if !self.owed.is_empty() {
+            return self.to(Stage::Free { call }, Output::Nothing);
+        }
+        let request = Request::List;
+        self.to(Stage::Relisting, Output::Ask { request })
+    }
+}
+
+#[tactic(auto, using(crate::proofs::Owed::rest_removed, crate::proofs::Owed::none_first))]
+fn but_first(owed: ServiceVersions) -> ServiceVersions
+    ensures { result ≡ but_first owed }
 {
-    let mut names = Sequence::new(alloc);
-    names.push(ServiceVersion {
-        key: put.key.copy()?,
-        version: put.version,
-    })?;
-    Ok(names)
+    if owed.is_empty() {
+        return owed;
+    }
+    let mut items = owed.into_vec();
+    drop(items.remove(0));
+    Sequence::from_vec(items)
+}
+
+#[tactic(auto, using(crate::proofs::Owed::last_moved, crate::proofs::Owed::none_last))]
+fn first_last(owed: ServiceVersions) -> Result<ServiceVersions, NoMemory>
+    ensures { IfOk result (λ names. names ≡ first_last owed) }
+{
+    if owed.is_empty() {
+        return Ok(owed);
+    }
+    let mut items = owed.into_vec();
+    let first = items.remove(0);
+    items.push(first)?;
+    Ok(Sequence::from_vec(items))
 }
 
 /// Whether the put is among those that are named.

@@ -44,7 +44,7 @@ pub record IsOfLanes (class : Option (List ℕ)) (run : List CoreEntry) : Type 0
   pub taken : AreItemsTaken lane_rules items replies (fresh class) state told
   pub begins : IsBeginning (entries_of told) run
 
--- Its world explains it, where the store is good; and what is done behind it, can be done.
+-- Its world explains it, where the store is good; and what is done after it, can be done.
 pub record IsInWorld (store : StoreValue) (stage : Stage) : Type 0 where
   pub explained : IsGoodStore store → Explains stage.class store stage.list stage.moves stage.run
   pub down : AllByRecursion IsBetween stage.between

@@ -26,7 +26,6 @@ use Rattle.world_rules.specs.Tracked.{Shown, IsBehind}
 use Rattle.world_rules.specs.World.{WorldValue, expired_core}
 use Rattle.world_rules.proofs.Lanes.{counted-at}
 use Rattle.settling_laws.specs.Clear.{at_one_version, IsClear, AreClear, IsSure, MovesKeepClear, StartsAreClear}
-use Rattle.world_rules.proofs.Takes.{old-event}
 use Rattle.settling_laws.proofs.Clear.{IsClearBy, clear-as, none-current, told-clear}
 use Rattle.settling_laws.proofs.Settles.{lost-clear, set_by, service_clear, turn_clear}
 
@@ -72,7 +71,7 @@ tell_clear : (store : StoreValue) (c : Option State) (event : Event) → IsOfGro
     → IfSome (option_map (λ s. core_take s event) c) (λ s. (key : Key) → IsClear store s key)
 tell_clear store None event of clear = tt
 tell_clear store (Some s) event (inl of) clear = λ key. (told-clear store s key (clear key) event of).at
-tell_clear store (Some s) event (inr old) clear = subst (λ (t : State). (key : Key) → IsClear store t key) (sym (old-event s event old)) clear
+tell_clear store (Some s) event (inr old) clear = subst (λ (t : State). (key : Key) → IsClear store t key) (sym old) clear
 
 start_clear : (c : Option State) (list : List Event) (w : WorldValue) → AreClear w → AreClear (after_start c list w)
 start_clear None list w clear = λ key current. absurd (none-current (stored_of w.store key) current)

@@ -298,7 +298,7 @@ module _ (w : WorldValue) (s : State) (copies : AreCopies w.store s w.service_la
     abbrev held-there : (h : Versioned Service) × (held_at key_cmp s.held.services put.key ≡ Some h)
     held-there = let is = held-of (held_at key_cmp s.held.services put.key) wanted.service wanted.found in (is.0, is.1)
 
-    -- the copies behind the reply, where the put was stored or not, by what was stored
+    -- the copies after the reply, where the put was stored or not, by what was stored
     abbrev Result : Bool → Option Stored → PutReply → Type 0
     Result b found reply =
         let objects = cond b (with_put (w.store.counter + 1) put found w.store.objects) w.store.objects in
@@ -480,7 +480,7 @@ late_by store (Some s) lane before event behind is copies =
 
 -- ---- a put that was given up
 module _ (store : StoreValue) (s : State) (lane : List Event) (put : Put) (copies : AreCopies store s lane) where
-  -- the copies behind it, where it was stored or not, by what was stored
+  -- the copies after it, where it was stored or not, by what was stored
   abbrev Landed : Bool → Option Stored → Type 0
   Landed b found =
       let objects = cond b (with_put (store.counter + 1) put found store.objects) store.objects in

@@ -1,4 +1,4 @@
--- How many services, keys, news and claims there are behind a change.
+-- How many services, keys, news and claims there are after a change.
 use Rattle.std.proofs.Common.{◌≡◌, ℕ, suc, ◌+◌, ◌*◌, ◌≤◌, Bool, true, false, cond, not, leb, ◌||◌, is_some, is_eq, List, [], ◌∷◌, ◌++◌, length, filter}
 use Rattle.std.proofs.Common.{Option, Some, None, Ordering, Less, Equal, Greater, option_map, refl, sym, ap, ◌∙◌, arith, append-nil}
 use Rattle.std.proofs.lemmas.Bool.{true≢false, or_right}
@@ -103,7 +103,7 @@ turns-few held test queue few = by_test (list_any test queue)
     by_test true = let a = up-few test queue in omega (arith, a, few)
     by_test false = omega (arith, few)
 
--- Behind a turn there is one turn less, whatever is queued behind the others, if none of it has a record: where a claim may have been taken away, the
+-- After a turn there is one turn less, whatever is queued after the others, if none of it has a record: where a claim may have been taken away, the
 -- service had a record, or others that have one are queued yet.
 pub turns-fewer : (held : ℕ) (test test' : Key → Bool) (k : Key) (rest woken : List Key) → length (rest ++ woken) ≤ held
     → list_any test' (rest ++ woken) ≡ list_any test rest → up_to_last test' (rest ++ woken) ≡ up_to_last test rest
@@ -126,7 +126,7 @@ turns-fewer held test test' k rest woken few any up none = by_rest (list_any tes
     by_rest true e = rw (any, up, e) (some_by (test k))
     by_rest false e = rw (any, up, e) (by_key (test k) refl e)
 
--- what is queued behind changes nothing of that, where none of it passes
+-- what is queued after changes nothing of that, where none of it passes
 pub up-kept : (test test' : Key → Bool) (keys more : List Key) → ((key : Key) → has_key keys key ≡ true → test' key ≡ test key)
     → ((key : Key) → has_key more key ≡ true → test' key ≡ false)
     → (list_any test' (keys ++ more) ≡ list_any test keys) × (up_to_last test' (keys ++ more) ≡ up_to_last test keys)
@@ -225,7 +225,7 @@ same_late true false true e = absurd (true≢false (sym e))
 same_late true false false e = omega arith
 same_late false ends ends' e = omega arith
 
--- behind the end of the list no end comes
+-- after the end of the list no end comes
 pub late-append : (store : StoreValue) (s : State) (xs ys : List Event) → list_any (event_ends_list groups.Service) ys ≡ false
     → late_among store s (xs ++ ys) ≤ late_among store s xs + late_among store s ys
 late-append store s [] ys none = omega arith

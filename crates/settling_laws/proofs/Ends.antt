@@ -35,7 +35,7 @@ use Rattle.settling_laws.proofs.Numbers.{most}
 use Rattle.settling_laws.proofs.Counts.{late-few, news-few, queue-few, turns-few}
 use Rattle.settling_laws.specs.Settling.{IsOwnStep, AreOwnSteps, behind_end, doubts_in, most_steps, StepsEnd}
 
-any-key : Key
+pub any-key : Key
 any-key = record { namespace = []; name = [] }
 
 pub own-terms : (step : Step) → IsOwnStep step → StepsTerms step
@@ -90,7 +90,7 @@ none-among (event ∷ lane) ends =
     let here = none-ends event (notices_in any-key lane) ends in
     or_from (event_ends_list groups.Service event) (list_any (event_ends_list groups.Service) lane) here.0 (none-among lane here.1)
 
-unlisted_by : (ended : Bool) (lane : List Event) → EndsOnce ended (notices_in any-key lane) → list_any (event_ends_list groups.Service) lane ≡ true → ended ≡ false
+pub unlisted_by : (ended : Bool) (lane : List Event) → EndsOnce ended (notices_in any-key lane) → list_any (event_ends_list groups.Service) lane ≡ true → ended ≡ false
 unlisted_by true lane ends some = absurd (true≢false (sym some ∙ none-among lane ends))
 unlisted_by false lane ends some = refl
 
@@ -111,20 +111,20 @@ none-config (event ∷ lane) none =
     or_from (event_ends_list groups.Config event) (list_any (event_ends_list groups.Config) lane)
     (false_from_ne_true (event_ends_list groups.Config event) (λ e. none.0 (config-end event e))) (none-config lane none.1)
 
-unconfigured_by : (ended : Bool) (lane : List Event) → ConfigEnds ended lane → list_any (event_ends_list groups.Config) lane ≡ true → ended ≡ false
+pub unconfigured_by : (ended : Bool) (lane : List Event) → ConfigEnds ended lane → list_any (event_ends_list groups.Config) lane ≡ true → ended ≡ false
 unconfigured_by true lane ends some = absurd (true≢false (sym some ∙ none-config lane ends))
 unconfigured_by false lane ends some = refl
 
-unready_by : (config services : Bool) (c : Option ConfigValue) → services ≡ false → (config && services && is_some c) ≡ false
+pub unready_by : (config services : Bool) (c : Option ConfigValue) → services ≡ false → (config && services && is_some c) ≡ false
 unready_by true true c e = absurd (true≢false e)
 unready_by true false c e = refl
 unready_by false services c e = refl
 
-unready_first : (config services : Bool) (c : Option ConfigValue) → config ≡ false → (config && services && is_some c) ≡ false
+pub unready_first : (config services : Bool) (c : Option ConfigValue) → config ≡ false → (config && services && is_some c) ≡ false
 unready_first true services c e = absurd (true≢false e)
 unready_first false services c e = refl
 
-orderly-in : (w : WorldValue) (s : State) → IsFollowed w s → IsOrderlyQueue s
+pub orderly-in : (w : WorldValue) (s : State) → IsFollowed w s → IsOrderlyQueue s
 orderly-in w s up = subst IsOrderlyQueue up.leads (queues_are_orderly w.class up.run up.is)
 
 config_falls : (class : Option (List ℕ)) (store : StoreValue) (config services : List Event) (c : Option State) → c ≢ None → config ≢ []

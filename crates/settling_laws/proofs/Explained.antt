@@ -1,19 +1,24 @@
 -- What holds in a cluster once a controller that ran in it waits.
-use Rattle.std.proofs.Common.{◌≡◌, ◌≢◌, ℕ, true, List, [], ◌∷◌, ◌++◌, Option, Some, None, ⊎_elim, refl, sym, ap, subst, ◌∙◌}
+use Rattle.std.proofs.Common.{◌≡◌, ◌≢◌, ℕ, Bool, true, false, ◌&&◌, is_some, List, [], ◌∷◌, ◌++◌, Option, Some, None, inl, inr, ⊎_elim, refl, sym, ap, subst, ◌∙◌}
+use Rattle.std.proofs.lemmas.Bool.{true≢false}
 use Rattle.std.specs.List.{AllByRecursion}
 use Rattle.kube_model.specs.declared.event.Event.{Event}
 use Rattle.kube_model.specs.declared.key.Key.{Key}
 use Rattle.kube_model.specs.declared.object.Object.TheVariants as objects
 use Rattle.kube_model.specs.declared.put.Put.{Put}
 use Rattle.kube_model.specs.declared.service.Service.{Service}
+use Rattle.pool_config.specs.Compile.{compiled}
+use Rattle.object_history.specs.Cache.{Cached, cached}
+use Rattle.alloc_book.specs.Asking.{Offer}
 use Rattle.claim_index.specs.Claims.{Holders}
 use Rattle.status_store.specs.declared.stored.Stored.{Stored}
 use Rattle.status_store.specs.Places.{service_at}
 use Rattle.status_store.specs.Objects.{IsStored}
 use Rattle.status_store.specs.Changes.{StoreValue}
-use Rattle.core_rules.specs.Core.{State, is_ready, offer_in, service_of}
+use Rattle.core_rules.specs.Core.{State, is_ready, labels_of, offer_in, service_of}
 use Rattle.core_rules.specs.declared.turn.Turn.TheVariants.{Idle, NoPut, Wants}
-use Rattle.core_rules.specs.Run.{TranscriptEntry, Took, Expired, Turned, Heard, IsRun, core_after, put_out}
+use Rattle.core_rules.specs.Run.{TranscriptEntry, Took, Expired, Turned, Heard, IsRun, core_after, observed, put_out}
+use Rattle.core_rules.proofs.Runs.{core_holds_what_was_observed}
 use Rattle.core_laws.specs.Quiet.{IsQuiet, MeetsRow}
 use Rattle.core_laws.specs.Shared.{AllShowTerms}
 use Rattle.core_laws.proofs.Puts.{class-is}
@@ -28,11 +33,15 @@ use Rattle.world_rules.proofs.Explaining.{answered-run, runs_are_safe_in_worlds,
 use Rattle.world_rules.proofs.Landing.{AreExpected, none-expected}
 use Rattle.world_rules.proofs.Worlds.{good-else, good-move, late-move, good-moves, starts_are_good}
 use Rattle.settling_laws.specs.Clear.{recorded, AreClear, IsSure}
+use Rattle.settling_laws.specs.Configured.{HasConfigCopies, IsConfiguredAsStored, IsServing}
+use Rattle.settling_laws.specs.StoredConfig.{config_in, labels_in}
 use Rattle.settling_laws.specs.Copies.{HasCopies}
-use Rattle.settling_laws.specs.Explained.{ListsAnew, AreSureAtLast, AreSureSince, EndsSettled, InAllConfigs, IsServedAtRest, IsSettling, RunsSettleWorlds}
+use Rattle.settling_laws.specs.Explained.{ListsAnew, AreSureAtLast, AreSureSince, EndsConfigured, EndsSettled, InAllConfigs, IsServedAtRest}
+use Rattle.settling_laws.specs.Explained.{IsServedAsStored, IsSettling, RunsSettleWorlds}
 use Rattle.settling_laws.specs.Settling.{IsSettledAsStored}
 use Rattle.settling_laws.proofs.Copies.{move-copies, starts_have_copies}
 use Rattle.settling_laws.proofs.Awaiting.{move-clear, expired_clear, starts_are_clear}
+use Rattle.settling_laws.proofs.ConfigRest.{accepted-in, controllers_configure, current-in, labels-held, offers, served-by, shown-compiles}
 use Rattle.settling_laws.proofs.Ends.{steps_end}
 use Rattle.settling_laws.proofs.Rest.{held-stored}
 use Rattle.settling_laws.proofs.Settles.{claims-recorded, controllers_settle, is-settled, unwritten}
@@ -107,6 +116,10 @@ some-is x y e = cc
 
 first-apart : {X : Type 0} (x : X) (xs : List X) → x ∷ xs ≡ [] → ⊥
 first-apart x xs e = absurd (cc)
+
+first-of : (a b c : Bool) → (a && b && c) ≡ true → a ≡ true
+first-of true b c e = refl
+first-of false b c e = absurd (true≢false (sym e))
 
 -- ---- the world whose core waits
 module _ (class : Option (List ℕ)) (store : StoreValue) (config : List Event) (s : State) where
@@ -229,6 +242,13 @@ module _ (class : Option (List ℕ)) (run : List TranscriptEntry) (is : IsRun cl
         up_by (IsSettledAsStored last) last.core (steps-up v steps are is-up)
         (controllers_settle v (good-else end config good) own copies (clear sure) steps are rest)
 
+    configures : AreSureSince moves → InAllConfigs end (λ v. HasConfigCopies v → EndsConfigured v)
+    configures sure config own leads steps are rest =
+        let v : WorldValue = record end { config_lane = config } in
+        let last : WorldValue = after_steps steps v in
+        up_by (IsConfiguredAsStored last) last.core (steps-up v steps are is-up)
+        (controllers_configure v (good-else end config good) own copies leads (clear sure) steps are rest)
+
     served-at-rest : AreSureSince moves → IsServedAtRest class end run
     served-at-rest sure ready queue out lane key service stored there what =
         let s : State = core_after class run in
@@ -236,12 +256,29 @@ module _ (class : Option (List ℕ)) (run : List TranscriptEntry) (is : IsRun cl
         subst (λ (c : Option (List ℕ)). MeetsRow c (offer_in s.held) (recorded end.store) service) (class-is class run)
         (waits_by end.class end.store end.config_lane end.service_lane end.core s now lane good copies (clear sure) ready queue key service stored there what)
 
+    served-as-stored : AreSureSince moves → IsServedAsStored class end run
+    served-as-stored sure ready queue out lane shows config serving key service stored there what =
+        let s : State = core_after class run in
+        let held : s.held ≡ cached (observed run) = (core_holds_what_was_observed class run is).0 in
+        let ended : s.held.config_ended ≡ true = first-of s.held.config_ended s.held.services_ended (is_some s.held.config) ready in
+        let compiles : compiled s.held.objects ≡ config_in end.store =
+        ap (λ (c : Cached). compiled c.objects) held ∙ shown-compiles end.store (observed run) good.stored.kept.ascending shows in
+        let by_held : IsServing end.store (λ last. s.held.config ≡ Some last) config =
+        ⊎_elim (λ ok. inl ok) (λ bad. inr (bad.0, bad.1, (accepted-in class run is s refl config).1 bad.2)) serving in
+        let force : s.held.config ≡ Some config = served-by end.store s.held config (current-in class run is) ended compiles by_held in
+        let labels : (name : List ℕ) → labels_of s.held name ≡ labels_in end.store name =
+        λ name. ap (λ (c : Cached). labels_of c name) held ∙ labels-held (observed run) name ∙ shows.labels name in
+        subst (λ (o : Service → Offer). MeetsRow class o (recorded end.store) service) (offers end.store s.held config force labels)
+        (served-at-rest sure ready queue out lane key service stored there what)
+
     pub settling : IsSettling class moves end run
     settling = record {
       core = core;
       ends = λ config own steps are. steps_end (record end { config_lane = config }) (good-else end config good) own steps are;
       settles = settles;
       served = served-at-rest;
+      configures = configures;
+      served_as_stored = served-as-stored;
     }
 
 pub runs_settle_worlds : RunsSettleWorlds

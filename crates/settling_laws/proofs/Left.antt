@@ -29,7 +29,7 @@ abbrev pub news_among : StoreValue → State → List Event → ℕ
 news_among store s [] = 0
 news_among store s (event ∷ more) = cond (are_news store s (effect_of event)) 1 0 + news_among store s more
 
--- how many of them are the end of their list, or stand behind it
+-- how many of them are the end of their list, or stand after it
 abbrev pub late_among : StoreValue → State → List Event → ℕ
 late_among store s [] = 0
 late_among store s (event ∷ more) = cond (are_news store s (effect_of event)) (cond (list_any (event_ends_list groups.Service) more) 0 1) 0 + late_among store s more
@@ -44,7 +44,7 @@ up_to_last test [] = 0
 up_to_last test (key ∷ keys) = cond (test key || list_any test keys) (suc (up_to_last test keys)) 0
 
 -- How many turns may be made before news are taken, where so many services are held, and no service without a record has a claim. A put may take a claim
--- away up to the last queued service that has a record. Behind that all services may be queued, none of which has one; and none is queued any more.
+-- away up to the last queued service that has a record. After that all services may be queued, none of which has one; and none is queued any more.
 abbrev pub turns_for : ℕ → (Key → Bool) → List Key → ℕ
 turns_for held test queue = cond (list_any test queue) (up_to_last test queue + held) (length queue)
 

@@ -9,6 +9,10 @@ pub mod Rest
 pub mod Copies
 pub mod Clear
 pub mod Settles
+pub mod NamedKinds
+pub mod UpToDate
+pub mod ConfigKept
+pub mod ConfigRest
 pub mod Awaiting
 pub mod Starts
 pub mod Staying

@@ -229,7 +229,7 @@ module _ (w : WorldValue) (s : State) (up : IsFollowed w s) where
     rest-is : rest_of s.queue ≡ wanted.rest
     rest-is = ap rest_of wanted.queue_is
 
-    -- the queue behind a reply is orderly
+    -- the queue after a reply is orderly
     orderly-next : (reply : PutReply) → IsOrderlyQueue (replied (after_turn s) put reply)
     orderly-next reply =
         let c : State = core_after w.class up.run in
@@ -240,7 +240,7 @@ module _ (w : WorldValue) (s : State) (up : IsFollowed w s) where
         (subst (λ (x : State). IsOrderlyQueue (core_reply (after_turn x) reply)) up.leads
         (queues_are_orderly w.class (Heard reply ∷ Turned (core_turn c) ∷ up.run) is))
 
-    -- the world behind the reply, where the put was stored or not, by what was stored
+    -- the world after the reply, where the put was stored or not, by what was stored
     abbrev replied_world : Bool → Option Stored → PutReply → WorldValue
     replied_world b found reply = record w {
       store = record {

@@ -1,7 +1,8 @@
 -- A controller that is left alone settles.
-use Rattle.std.specs.Prelude.{◌≡◌, ◌≤◌, ◌+◌, ◌*◌, ℕ, Bool, true, false, is_some, if◌then◌else◌, IfSome, Option, Some, None, List, [], ◌∷◌, filter, length, ⊤}
+use Rattle.std.specs.Prelude.{◌≡◌, ◌≤◌, ◌+◌, ◌*◌, ℕ, Bool, true, false, is_some, if◌then◌else◌, IfSome, Option, Some, None, Err, List, [], ◌∷◌, filter, length, ⊤}
 use Rattle.std.specs.List.{AllByRecursion, list_any}
 use Rattle.std.specs.Option.{option_map_or}
+use Rattle.kube_model.specs.declared.config_fault.ConfigFault.{ConfigFault}
 use Rattle.kube_model.specs.declared.event.Event.{Event}
 use Rattle.kube_model.specs.declared.event.ListGroup.{ListGroup}
 use Rattle.kube_model.specs.declared.event.ListGroup.TheVariants as groups
@@ -26,6 +27,8 @@ use Rattle.world_rules.specs.Safe.{HasTerms}
 use Rattle.world_rules.specs.World.{started, WorldValue, IsEnabled, after_steps, world_step}
 use Rattle.settling_laws.specs.Copies.{HasCopies}
 use Rattle.settling_laws.specs.Clear.{AreClear, recorded}
+use Rattle.settling_laws.specs.Configured.{HasConfigCopies, IsConfigured, IsConfiguredAsStored}
+use Rattle.settling_laws.specs.StoredConfig.{config_in}
 
 -- the controller takes an event that is pending, or makes a turn whose put is delivered: nobody edits, and nothing is lost
 abbrev pub IsOwnStep : Step → Type 0
@@ -45,7 +48,7 @@ AreOwnSteps (step ∷ steps) w = IsOwnStep step × IsEnabled step w × AreOwnSte
 abbrev pub known_to : State → WorldValue → ℕ
 known_to s w = length s.held.services + (length w.config_lane + length w.service_lane)
 
--- how many of the events are the end of their list, or stand behind it; where it isn't among them, all
+-- how many of the events are the end of their list, or stand after it; where it isn't among them, all
 abbrev pub behind_end : ListGroup → List Event → ℕ
 behind_end group [] = 0
 behind_end group (event ∷ more) = (if list_any (event_ends_list group) more then 0 else 1) + behind_end group more
@@ -92,6 +95,10 @@ pub record IsSettled (w : WorldValue) (s : State) : Type 0 where
 abbrev pub RestIsSettled : Type 0
 RestIsSettled = (w : WorldValue) → IsGood w → IsOwn w → HasCopies w → IsAtRest w → IfSome w.core (IsSettled w)
 
+-- and so it is by the stored configuration, where what is held and pending of that leads to it
+abbrev pub RestIsConfigured : Type 0
+RestIsConfigured = (w : WorldValue) → IsGood w → IsOwn w → HasCopies w → HasConfigCopies w → IsAtRest w → IfSome w.core (IsConfigured w)
+
 -- Besides, none awaits anything, and what is chosen for each is so by what is stored for all.
 pub record IsSettledAsStored (w : WorldValue) (s : State) : Type 0 where
   pub settled : IsSettled w s
@@ -105,12 +112,21 @@ ControllersSettle =
     (w : WorldValue) → IsGood w → IsOwn w → HasCopies w → AreClear w → (steps : List Step) → AreOwnSteps steps w → IsAtRest (after_steps steps w)
     → IfSome (after_steps steps w).core (IsSettledAsStored (after_steps steps w))
 
--- So it is where a controller is started over a store, which has services without wrongly shared addresses: after nine steps for each event of its lists
--- nothing is left to do, and wherever nothing is, the world is settled.
+-- and so by the stored configuration, where at first what is held and pending of that leads to it
+abbrev pub ControllersConfigure : Type 0
+ControllersConfigure =
+    (w : WorldValue) → IsGood w → IsOwn w → HasCopies w → HasConfigCopies w → AreClear w → (steps : List Step) → AreOwnSteps steps w
+    → IsAtRest (after_steps steps w) → IfSome (after_steps steps w).core (IsConfiguredAsStored (after_steps steps w))
+
+-- So it is where a controller is started over a store, which has services without wrongly shared addresses: after a step for each event of the list of the
+-- configuration and five for each of that of the services nothing is left to do, and wherever nothing is, the world is settled, also by the stored
+-- configuration; where that has a fault, none is in force.
 abbrev pub StartsSettle : Type 0
 StartsSettle =
     (class : Option (List ℕ)) (store : StoreValue) → IsGoodStore store → AllByRecursion (λ held. HasTerms held.object) store.objects
     → (steps : List Step) → AreOwnSteps steps (started class store)
     → (let w = started class store in
     let end = after_steps steps w in
-    (length steps ≤ 9 * (length w.config_lane + length w.service_lane)) × (IsAtRest end → (s : State) × (end.core ≡ Some s) × IsSettledAsStored end s))
+    (length steps ≤ length w.config_lane + 5 * length w.service_lane)
+    × (IsAtRest end → (s : State) × (end.core ≡ Some s) × IsSettledAsStored end s × IsConfiguredAsStored end s
+    × ((fault : ConfigFault) → config_in end.store ≡ Err fault → s.held.config ≡ None)))

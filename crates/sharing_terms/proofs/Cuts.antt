@@ -37,7 +37,7 @@ pub pieces-last : (byte : ℕ) (xs : List ℕ) → Lacks byte xs → pieces byte
 pieces-last byte [] lacks = refl
 pieces-last byte (x ∷ xs) lacks = let first = lacks.0 in rw first (ap (extended x) (pieces-last byte xs lacks.1))
 
--- parts behind such bytes are the pieces
+-- parts after such bytes are the pieces
 pub pieces-flat : {X : Type 0} (byte : ℕ) (g : X → List ℕ) (first : List ℕ) (xs : List X) → Lacks byte first → AllByRecursion (λ x. Lacks byte (g x)) xs
     → pieces byte (first ++ flat_map (λ x. byte ∷ g x) xs) ≡ first ∷ map g xs
 pieces-flat byte g first [] lacks all = ap (pieces byte) (append-nil first) ∙ pieces-last byte first lacks

@@ -120,7 +120,7 @@ module _ {K : Type 0} (R : K → K → Ordering) where
   insert_key-contains exact [] k x there = ⊎_elim (λ new. subst (Contains (k ∷ [])) new (contains-first k [])) (λ old. absurd (contains-none x old)) there
   insert_key-contains exact (y ∷ ys) k x there = kept_by (R k y) k y ys x refl exact (insert_key-contains exact ys k x) there
 
-  -- the key behind all others goes to the end
+  -- the key after all others goes to the end
   insert_key-last : IsTotalOrder R → (kept : List K) (k : K) (rest : List K) → IsStrictlySortedBy R (kept ++ k ∷ rest) → insert_key R kept k ≡ kept ++ k ∷ []
   unfolding IsStrictlySortedBy
   insert_key-last o [] k rest up = refl

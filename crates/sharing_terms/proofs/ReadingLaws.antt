@@ -12,7 +12,7 @@ text-some bytes text is h = let passes = is_utf8-from_IsUtf8 bytes h in rw (pass
 pub text-none : (bytes : List ℕ) → ¬ (IsUtf8 bytes) → None ≡ text_of_bytes bytes
 text-none bytes h = let fails = false_from_ne_true (is_utf8 bytes) (λ e. h (IsUtf8-from_is_utf8 bytes e)) in rw fails refl
 
--- pieces, the first of which goes on behind these bytes
+-- pieces, the first of which goes on after these bytes
 abbrev pub prefixed : List ℕ → List (List ℕ) → List (List ℕ)
 prefixed front [] = front ∷ []
 prefixed front (piece ∷ pieces) = (front ++ piece) ∷ pieces

@@ -20,7 +20,7 @@ protocol_letter Sctp = 83
 abbrev pub port_text : Port → List ℕ
 port_text port = protocol_letter port.protocol ∷ decimal port.port
 
--- the first port, and each other one behind a comma (44)
+-- the first port, and each other one after a comma (44)
 abbrev pub ports_text : List Port → List ℕ
 ports_text [] = []
 ports_text (port ∷ ports) = port_text port ++ flat_map (λ p. 44 ∷ port_text p) ports

@@ -18,7 +18,7 @@ rank Sctp = 2
 abbrev pub port_cmp : Port → Port → Ordering
 port_cmp a b = ordering_then (nat_cmp (rank a.protocol) (rank b.protocol)) (nat_cmp a.port b.port)
 
--- each port stands before those behind it, so none stands twice
+-- each port stands before those after it, so none stands twice
 abbrev pub AreAscending : List Port → Type 0
 AreAscending ports = IsStrictlySortedBy port_cmp ports
 

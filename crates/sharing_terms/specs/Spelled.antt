@@ -19,7 +19,7 @@ abbrev pub ahead_of : ℕ → List ℕ → List ℕ
 ahead_of byte [] = []
 ahead_of byte (c ∷ text) = if c == byte then [] else c ∷ ahead_of byte text
 
--- the text behind the first such byte, or nothing
+-- the text after the first such byte, or nothing
 abbrev pub behind : ℕ → List ℕ → List ℕ
 behind byte [] = []
 behind byte (c ∷ text) = if c == byte then text else behind byte text
@@ -36,7 +36,7 @@ text_of_hex digits = option_and_then text_of_bytes (result_ok (decode_of digits)
 abbrev pub protocol_of_letter : ℕ → Option Protocol
 protocol_of_letter c = if c == 84 then Some Tcp else (if c == 85 then Some Udp else (if c == 83 then Some Sctp else None))
 
--- the number of these digits behind n, where it is one of 16 bits
+-- the number of these digits after n, where it is one of 16 bits
 abbrev pub number_from : ℕ → List ℕ → Option ℕ
 number_from n [] = Some n
 number_from n (c ∷ digits) =

@@ -1,4 +1,5 @@
-//! The terms under which a service holds its addresses, which services may share one, and the mark that keeps the terms.
+//! The terms under which a service holds its addresses, which services may share one, and the mark
+//! that keeps the terms.
 #![tactic(auto)]
 
 mod mark;

@@ -5,7 +5,8 @@ ghost use Rattle.kube_labels.specs.Pairs.{pairs_of, IsAscending};
 ghost use Rattle.hex.specs.Hex.{encode_lower};
 ghost use Rattle.sharing_terms.specs.declared.terms.Terms.{Terms};
 ghost use Rattle.sharing_terms.specs.Marked.{AreSmall, AreTexts, IsBackend, AreTerms, IsMarkOf};
-ghost use Rattle.sharing_terms.specs.Marks.{protocol_letter, port_text, ports_text, pair_text, backend_text, mark_of};
+ghost use Rattle.sharing_terms.specs.Marks.{protocol_letter, port_text, ports_text, pair_text};
+ghost use Rattle.sharing_terms.specs.Marks.{backend_text, mark_of};
 
 use crate::terms::{Backend, Terms};
 use kube_labels::{Labels, Text};
@@ -31,7 +32,7 @@ fn port_text(alloc: Global, port: &Port) -> Result<String, AllocError>
     format!(in alloc; "{}{port}", protocol_letter(protocol))
 }
 
-/// Appends each port behind a comma.
+/// Appends each port after a comma.
 fn push_others(alloc: Global, text: &mut String, ports: &[Port]) -> Result<(), AllocError>
     ensures text { OnOk result (string_bytes text.new
         ≡ string_bytes text.old ++ flat_map (λ p. 44 ∷ port_text p) ports.now) }
@@ -47,7 +48,8 @@ fn push_others(alloc: Global, text: &mut String, ports: &[Port]) -> Result<(), A
 
 /// Appends the ports, with commas between.
 fn push_ports(alloc: Global, text: &mut String, ports: &[Port]) -> Result<(), AllocError>
-    ensures text { OnOk result (string_bytes text.new ≡ string_bytes text.old ++ ports_text ports.now) }
+    ensures text { OnOk result (string_bytes text.new
+        ≡ string_bytes text.old ++ ports_text ports.now) }
     ensures small { OnOk result (AreSmall ports.now) }
 {
     let [first, others @ ..] = ports else {
@@ -60,7 +62,8 @@ fn push_ports(alloc: Global, text: &mut String, ports: &[Port]) -> Result<(), Al
 
 /// Appends the hexadecimal of the other text's bytes.
 fn push_hex(alloc: Global, text: &mut String, other: &str) -> Result<(), AllocError>
-    ensures text { OnOk result (string_bytes text.new ≡ string_bytes text.old ++ encode_lower other.now) }
+    ensures text { OnOk result (string_bytes text.new
+        ≡ string_bytes text.old ++ encode_lower other.now) }
     ensures utf8 { IsUtf8 other.now }
 {
     let digits = hex::encode(alloc, other.as_bytes())?;
@@ -78,7 +81,7 @@ fn push_pair(alloc: Global, text: &mut String, name: &str, value: &str) -> Resul
     push_hex(alloc, text, value)
 }
 
-/// Appends the pairs by ascending names, each behind a comma.
+/// Appends the pairs by ascending names, each after a comma.
 fn push_pairs(alloc: Global, text: &mut String, labels: &Labels) -> Result<(), AllocError>
     ensures text { OnOk result (string_bytes text.new
         ≡ string_bytes text.old ++ flat_map pair_text labels.now) }
@@ -92,7 +95,8 @@ fn push_pairs(alloc: Global, text: &mut String, labels: &Labels) -> Result<(), A
 }
 
 fn push_backend(alloc: Global, text: &mut String, backend: &Backend) -> Result<(), AllocError>
-    ensures text { OnOk result (string_bytes text.new ≡ string_bytes text.old ++ backend_text backend.now) }
+    ensures text { OnOk result (string_bytes text.new
+        ≡ string_bytes text.old ++ backend_text backend.now) }
     ensures backend { OnOk result (IsBackend backend.now) }
 {
     match backend {
@@ -121,8 +125,9 @@ fn written(alloc: Global, terms: &Terms) -> Result<Text, NoMemory>
     Ok(Text::from_string(text))
 }
 
-/// The one mark of the terms: `v1;`, the sharing key, `;`, the ports with commas between, `;` and the backend. Whatever the
-/// terms are, it is the mark of no others, and `read_mark` gives them back.
+/// The one mark of the terms: `v1;`, the sharing key, `;`, the ports with commas between, `;` and
+/// the backend. Whatever the terms are, it is the mark of no others, and `read_mark` gives them
+/// back.
 pub fn mark_text(alloc: Global, terms: &Terms) -> Result<Text, NoMemory>
     ensures value { IfOk result (λ text. text ≡ mark_of terms.now) }
     ensures mark { IfOk result (IsMarkOf terms.now) }

@@ -8,7 +8,8 @@ use std::alloc::Global;
 use std::collections::BTreeSet;
 use std::marker::Model;
 
-/// Ports of protocols, distinct and ascending: TCP before UDP before SCTP, and by number. Contracts see their list.
+/// Ports of protocols, distinct and ascending: TCP before UDP before SCTP, and by number. Contracts
+/// see their list.
 pub struct PortSet {
     ports: PortList,
 }

@@ -1,6 +1,8 @@
 //! Marks that are read: what a text may spell is written again, and compared with the text.
 ghost use Rattle.std.specs.Prelude.{◌≡◌, ◌↔◌, [], IfOk, Some};
-ghost use Rattle.sharing_terms.specs.Spelled.{ahead_of, behind, text_of_bytes, text_of_hex, protocol_of_letter, number_from, port_of_text, pieces};
+ghost use Rattle.sharing_terms.specs.Spelled.{ahead_of, behind, text_of_bytes, text_of_hex};
+ghost use Rattle.sharing_terms.specs.Spelled.{protocol_of_letter, number_from, port_of_text};
+ghost use Rattle.sharing_terms.specs.Spelled.{pieces};
 ghost use Rattle.sharing_terms.specs.Spelled.{ports_from, ports_of_text, pair_of_text, labels_from, local_from, backend_of_text, spelled, recorded_terms};
 ghost use Rattle.sharing_terms.specs.declared.terms.Terms.{Terms};
 ghost use Rattle.sharing_terms.specs.Marked.{IsMarkOf};
@@ -26,7 +28,7 @@ fn ahead_of(byte: u8, text: &[u8]) -> &[u8]
     text
 }
 
-/// The text behind the first such byte, or nothing.
+/// The text after the first such byte, or nothing.
 fn behind(byte: u8, text: &[u8]) -> &[u8]
     ensures { result.now ≡ behind byte text.now }
 {

@@ -84,8 +84,8 @@ fn backend_of(service: &Service) -> Result<Backend, NoMemory>
     }
 }
 
-/// The terms that the service has now: its annotation `metallb.io/allow-shared-ip`, its ports, each once, and where its
-/// external traffic policy sends its traffic.
+/// The terms that the service has now: its annotation `metallb.io/allow-shared-ip`, its ports, each
+/// once, and where its external traffic policy sends its traffic.
 pub fn terms_of(alloc: Global, service: &Service) -> Result<Terms, NoMemory>
     ensures value { IfOk result (λ terms. terms ≡ terms_of service.now) }
     ensures ports { IfOk result (λ terms. ArePortsOf service.now.ports terms.ports) }

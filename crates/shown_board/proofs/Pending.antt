@@ -1,4 +1,4 @@
--- What is published, and what is pending by the operations behind that.
+-- What is published, and what is pending by the operations after that.
 use Rattle.std.proofs.Common.{◌≡◌, List, [], ◌∷◌, ◌++◌, sym, ap, ◌∙◌, append_assoc, Result, Ok, Err, MatchResult, fold}
 use Rattle.std.proofs.lemmas.List.{append-nil, map-append}
 use Rattle.shown_board.specs.Boarded.{Boarded, Ending, Publishes, events_of}

@@ -1,4 +1,4 @@
--- Events that are taken in one after the other stand behind the list.
+-- Events that are taken in one after the other stand after the list.
 use Rattle.std.proofs.Common.{◌≡◌, List, [], ◌∷◌, ◌++◌, fold, sym, ◌∙◌, append_assoc}
 use Rattle.std.proofs.lemmas.List.{append-nil}
 use Rattle.shown_board.specs.Boarded.{Ending, with_event, events_of}

@@ -12,13 +12,15 @@ use std::alloc::Global;
 use std::sync::Wait;
 use std::thread::{Threads, join};
 
-/// The answers to all questions, one after the other, unless one isn't answered or memory is wanting.
+/// The answers to all questions, one after the other, unless one isn't answered or memory is
+/// wanting.
 pub fn answer_all<T: Follower<E>, E: Drop, J: Naming, Q: Question<T>>(
     alloc: Global,
     responder: &mut Responder<T, E, J>,
     questions: &[Q],
 ) -> Option<Vec<Reply<Q::Answer>>>
-    ensures { IfSome result (λ replies. AreReplies T.after T.start Q.answers responder.old.seen questions.now replies.items responder.new.seen) }
+    ensures { IfSome result (λ replies. AreReplies T.after T.start Q.answers responder.old.seen
+        questions.now replies.items responder.new.seen) }
 {
     let mut replies = Vec::new(alloc);
     for question in questions {
@@ -52,7 +54,8 @@ fn publish_one<P: Post<E, J>, E: Drop, J: Naming, R: Wait>(
     event: E,
 ) -> bool
     requires { writer.old.pending ≡ [] }
-    ensures { IsTrue result → (writer.new.published ≡ writer.old.published ++ event ∷ []) × (writer.new.pending ≡ []) }
+    ensures { IsTrue result → (writer.new.published ≡ writer.old.published ++ event ∷ [])
+        × (writer.new.pending ≡ []) }
 {
     match writer.append(event) {
         Ok(()) => writer.publish(rt).is_ok(),
@@ -69,7 +72,8 @@ fn read<T: Follower<E>, E: Drop, J: Naming, Q: Question<T>>(
     mut responder: Responder<T, E, J>,
     questions: &[Q],
 ) -> Option<(Beginning<E, J>, Vec<Reply<Q::Answer>>)>
-    ensures { IfSome result (λ r. AreReplies T.after T.start Q.answers responder.seen questions.now r.1.items r.0) }
+    ensures { IfSome result (λ r. AreReplies T.after T.start Q.answers responder.seen questions.now
+        r.1.items r.0) }
 {
     let read = match answer_all(alloc, &mut responder, questions) {
         Some(replies) => Some((responder.seen(), replies)),
@@ -95,8 +99,9 @@ fn write<P: Post<E, J>, E: Drop, J: Naming, R: Wait>(
     }
 }
 
-/// One thread publishes the events, each by itself, while another answers the questions. Each answer is by the value after some first ones of
-/// the events, of which there are never fewer than before. `None` says that memory was wanting, or that a question wasn't answered.
+/// One thread publishes the events, each by itself, while another answers the questions. Each
+/// answer is by the value after some first ones of the events, of which there are never fewer than
+/// before. `None` says that memory was wanting, or that a question wasn't answered.
 pub fn answer_beside<
     T: Follower<E> + Send + Sync,
     E: Drop + Send + Sync,
@@ -116,7 +121,8 @@ where
     Q::Answer: Send,
     requires book { opened.seen.book ≡ J.book }
     requires start { (first ≡ T.start) × (second ≡ T.start) }
-    ensures { IfSome result (λ replies. AreAnswered T.after T.start Q.answers events.items 0 questions.now replies.items) }
+    ensures { IfSome result (λ replies. AreAnswered T.after T.start Q.answers events.items 0
+        questions.now replies.items) }
 {
     let (mut writer, responder) = match board::<T, E, J, R>(rt, alloc, opened, first, second) {
         Ok(sides) => sides,
@@ -128,7 +134,8 @@ where
     let (read, written) = join(
         rt,
         || -> Option<(Beginning<E, J>, Vec<Reply<Q::Answer>>)>
-            ensures { IfSome result (λ r. AreReplies T.after T.start Q.answers responder.seen questions.entry.now r.1.items r.0) }
+            ensures { IfSome result (λ r. AreReplies T.after T.start Q.answers responder.seen
+                questions.entry.now r.1.items r.0) }
         { read(alloc, responder, questions) },
         || -> Option<Beginning<E, J>>
             requires { (writer.published ≡ []) × (writer.pending ≡ []) }
@@ -145,8 +152,10 @@ fn known<T: Follower<E>, E: Drop, J: Naming, Q: Question<T>>(
     written: Option<Beginning<E, J>>,
 ) -> Option<Vec<Reply<Q::Answer>>>
     ensures { (questions : List Q) (events : List E)
-        → IfSome read (λ r. AreReplies T.after T.start Q.answers [] questions r.1.items r.0) → IfSome written (λ all. all ≡ events)
-        → IfSome result (λ replies. AreAnswered T.after T.start Q.answers events 0 questions replies.items) }
+        → IfSome read (λ r. AreReplies T.after T.start Q.answers [] questions r.1.items r.0)
+        → IfSome written (λ all. all ≡ events)
+        → IfSome result (λ replies. AreAnswered T.after T.start Q.answers events 0 questions
+        replies.items) }
 {
     let (seen, replies) = read?;
     if !seen.begins(&written?) {

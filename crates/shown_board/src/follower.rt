@@ -11,7 +11,8 @@ pub trait Follower<E>: Drop {
     /// The value after one event more.
     ghost after: { Self → E → Self };
 
-    /// Takes the event in. After a refusal, by want of memory or of an event that the value can't take, the value is unchanged.
+    /// Takes the event in. After a refusal, by running out of memory or of an event that the value
+    /// can't take, the value is unchanged.
     fn follow(&mut self, event: &E) -> Result<(), AllocError>
         ensures ok { OnOk result (self.new ≡ after self.old event.now) }
         ensures err { OnErr result (self.new ≡ self.old) };

@@ -8,7 +8,8 @@ use left_right::Absorb;
 use std::alloc::AllocError;
 use std::marker::Model;
 
-/// A value with the beginning of the events after which it is what it is. Contracts see these events.
+/// A value with the beginning of the events after which it is what it is. Contracts see these
+/// events.
 #[derive(Drop)]
 pub struct Posted<T: Follower<E>, E, J: Naming> {
     pub(crate) value: T,

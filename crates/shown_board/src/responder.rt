@@ -12,7 +12,8 @@ use std::marker::Model;
 
 pub(crate) type PostedReader<T, E, J> = Reader<Posted<T, E, J>, (), Unruled>;
 
-/// The reader of a board. Contracts see the events that it has seen, and the longest list of events that it was told of.
+/// The reader of a board. Contracts see the events that it has seen, and the longest list of events
+/// that it was told of.
 #[derive(Drop)]
 pub struct Responder<T: Follower<E>, E: Drop, J: Naming> {
     reader: Option<PostedReader<T, E, J>>,
@@ -58,14 +59,17 @@ impl<T: Follower<E>, E: Drop, J: Naming> Responder<T, E, J> {
         }
     }
 
-    /// The answer by the value after the events that are then seen. These begin with all that were seen before, and with all that it was told
-    /// of. `None` is free: nothing is read where the writer has ended. It takes no memory but what the question takes.
+    /// The answer by the value after the events that are then seen. These begin with all that were
+    /// seen before, and with all that it was told of. `None` is free: nothing is read where the
+    /// writer has ended. It takes no memory but what the question takes.
     pub fn respond<Q: Question<T>>(&mut self, question: &Q) -> Option<Reply<Q::Answer>>
         ensures none { IfNone result (self.new ≡ self.old) }
         ensures told { self.new.told ≡ self.old.told }
-        ensures later { IfSome result (λ _. IsPrefix self.old.seen self.new.seen × IsPrefix self.old.told self.new.seen) }
+        ensures later { IfSome result (λ _. IsPrefix self.old.seen self.new.seen
+            × IsPrefix self.old.told self.new.seen) }
         ensures seen { IfSome result (λ reply. reply.seen ≡ length self.new.seen) }
-        ensures answer { IfSome result (λ reply. Q.answers question.now (fold T.after T.start self.new.seen) reply.answer) }
+        ensures answer { IfSome result
+            (λ reply. Q.answers question.now (fold T.after T.start self.new.seen) reply.answer) }
     {
         match self.reader.take()?.enter_as::<Unruled>() {
             Err(reader) => {
@@ -88,9 +92,11 @@ impl<T: Follower<E>, E: Drop, J: Naming> Responder<T, E, J> {
     ) -> Option<Reply<Q::Answer>>
         ensures none { IfNone result (self.new ≡ self.old) }
         ensures told { self.new.told ≡ self.old.told }
-        ensures later { IfSome result (λ _. IsPrefix self.old.seen self.new.seen × IsPrefix self.old.told self.new.seen) }
+        ensures later { IfSome result (λ _. IsPrefix self.old.seen self.new.seen
+            × IsPrefix self.old.told self.new.seen) }
         ensures seen { IfSome result (λ reply. reply.seen ≡ length self.new.seen) }
-        ensures answer { IfSome result (λ reply. Q.answers question.now (fold T.after T.start self.new.seen) reply.answer) }
+        ensures answer { IfSome result
+            (λ reply. Q.answers question.now (fold T.after T.start self.new.seen) reply.answer) }
     {
         if !self.seen.begins(&posted.front) || !self.told.begins(&posted.front) {
             return None;

@@ -15,7 +15,8 @@ use std::sync::Wait;
 
 type PostedWriter<P, E, J> = Writer<P, Step<E, J>, (), Unruled>;
 
-/// Contracts see the events that are published and those that are pending. It is not `Drop`: end it by `end`.
+/// Contracts see the events that are published and those that are pending. It is not `Drop`: end it
+/// by `end`.
 pub struct BoardWriter<P: Post<E, J>, E: Drop, J: Naming> {
     grower: Grower<E, J>,
     writer: PostedWriter<P, E, J>,
@@ -34,7 +35,7 @@ impl<P: Post<E, J>, E: Drop, J: Naming> Model for BoardWriter<P, E, J> {
     ghost invariant = { λ b. b.is_lost ≡ false → P.list b.writer.desk.shown.value ++ events_of (drop b.writer.behind b.writer.log.items) ≡ b.grower };
 }
 
-/// An event that wasn't appended, for want of memory.
+/// An event that wasn't appended, where memory ran out.
 #[derive(Drop)]
 pub struct AppendBack<E: Drop> {
     pub event: E,
@@ -88,7 +89,8 @@ fn sides<T: Follower<E>, E: Drop, J: Naming, R: Wait>(
     second: Posted<T, E, J>,
 ) -> Result<(PostedWriter<Posted<T, E, J>, E, J>, PostedReader<T, E, J>), AllocError>
     requires { first ≡ second }
-    ensures { IfOk result (λ s. (s.0.desk.shown.value ≡ first) × (drop s.0.behind s.0.log.items ≡ [])) }
+    ensures { IfOk result (λ s. (s.0.desk.shown.value ≡ first)
+        × (drop s.0.behind s.0.log.items ≡ [])) }
 {
     let writer: PostedWriter<Posted<T, E, J>, E, J> = Writer::new(alloc, first, second, 1)?;
     match writer.factory().reader() {
@@ -101,10 +103,12 @@ fn sides<T: Follower<E>, E: Drop, J: Naming, R: Wait>(
 }
 
 impl<P: Post<E, J>, E: Drop, J: Naming> BoardWriter<P, E, J> {
-    /// The event goes to the end of what is pending. For want of memory it comes back, and nothing changes; so it is behind 2^64 - 1 events.
+    /// The event goes to the end of what is pending. Where memory ran out it comes back, and
+    /// nothing changes; so it is behind 2^64 - 1 events.
     pub fn append(&mut self, event: E) -> Result<(), AppendBack<E>>
         ensures published { self.new.published ≡ self.old.published }
-        ensures pending { MatchResult result (λ _. self.new.pending ≡ self.old.pending ++ event ∷ [])
+        ensures pending { MatchResult result
+            (λ _. self.new.pending ≡ self.old.pending ++ event ∷ [])
             (λ back. (back.event ≡ event) × (self.new.pending ≡ self.old.pending)) }
     {
         if self.is_lost || !self.grower.add(&event) {
@@ -122,17 +126,20 @@ impl<P: Post<E, J>, E: Drop, J: Naming> BoardWriter<P, E, J> {
         }
     }
 
-    /// Publishes all that is pending, at one step. Where memory is wanting, or the value can't take an event, nothing changes.
+    /// Publishes all that is pending, at one step. Where memory is wanting, or the value can't take
+    /// an event, nothing changes.
     pub fn publish<R: Wait>(&mut self, rt: &R) -> Result<(), AllocError>
         ensures { MatchResult result
-            (λ _. (self.new.published ≡ self.old.published ++ self.old.pending) × (self.new.pending ≡ []))
+            (λ _. (self.new.published ≡ self.old.published ++ self.old.pending)
+            × (self.new.pending ≡ []))
             (λ _. self.new ≡ self.old) }
     {
         replace_with(
             &mut self.writer,
             rt,
             |writer, rt| -> (PostedWriter<P, E, J>, Result<(), AllocError>)
-                ensures { Publishes result.1 (P.list writer.desk.shown.value) (drop writer.behind writer.log.items)
+                ensures { Publishes result.1 (P.list writer.desk.shown.value)
+                    (drop writer.behind writer.log.items)
                     (P.list result.0.desk.shown.value) (drop result.0.behind result.0.log.items) }
             { writer.publish_as::<Unruled, R>(rt) },
         )

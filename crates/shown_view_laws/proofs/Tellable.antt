@@ -12,6 +12,7 @@ use Rattle.ip_ranges.specs.declared.family.Family.TheVariants.{V4, V6}
 use Rattle.ip_ranges.specs.Values.{AddressValue, PrefixValue, IsOfFamily, IsPrefix, width_of}
 use Rattle.large_numbers.specs.Large.{large_cmp}
 use Rattle.mlb_base.specs.Items.{IsIn}
+use Rattle.mlb_base.proofs.Lists.{contains-in}
 use Rattle.pool_config.specs.declared.compiled.CompiledBgp.{CompiledBgp}
 use Rattle.pool_config.specs.declared.compiled.CompiledPeer.{CompiledPeer}
 use Rattle.pool_config.proofs.CommunitySets.{large_cmp-exact, large_cmp-total}
@@ -144,11 +145,13 @@ module _ (v : ViewValue) (node : List ℕ) (peer : CompiledPeer) (both : Bool) (
   contribution-good c by =
       let adv = by.advertised in
       let numbers : HasCompiledNumbers by.advertisement =
-      each-of HasCompiledNumbers adv.config.bgp by.advertisement (numbered.config adv.config adv.in_force).bgp adv.there in
+      each-of HasCompiledNumbers adv.config.bgp by.advertisement (numbered.config adv.config adv.meant.in_force).bgp adv.there in
       let announced = by.announced in
       let addresses : HasFittingAddresses announced.service =
-      each-of HasFittingAddresses (objects_of v.held.services) announced.service numbered.services announced.held in
-      let fits : IsOfFamily by.address = each-of IsOfFamily announced.service.holding.addresses by.address addresses announced.recorded in
+      each-of HasFittingAddresses (objects_of v.held.services) announced.service numbered.services
+      (contains-in (objects_of v.held.services) announced.service announced.held) in
+      let fits : IsOfFamily by.address = each-of IsOfFamily announced.service.holding.addresses by.address addresses
+      (contains-in announced.service.holding.addresses by.address announced.recorded) in
       subst (IsGood peering) (sym by.is) (record {
         prefix = (masked-is by.address.family by.address.number (length_for by.address.family by.advertisement)
             (length-fits by.address.family by.advertisement numbers) fits).is;
@@ -160,10 +163,10 @@ module _ (v : ViewValue) (node : List ℕ) (peer : CompiledPeer) (both : Bool) (
             preference = told-small (peer.my_asn == peer.peer_asn) by.advertisement.local_pref numbers.local_pref;
             communities = numbers.communities;
             ascending = each-of (λ (a : CompiledBgp). IsStrictlySortedBy nat_cmp a.communities) adv.config.bgp by.advertisement
-                (limited adv.config adv.in_force).numbers.ascend adv.there;
+                (limited adv.config adv.meant.in_force).numbers.ascend adv.there;
             large = numbers.large;
             large_ascending = each-of (λ (a : CompiledBgp). IsStrictlySortedBy large_cmp a.large) adv.config.bgp by.advertisement
-                (limited adv.config adv.in_force).large.ascend adv.there;
+                (limited adv.config adv.meant.in_force).large.ascend adv.there;
           };
           told = told-some (peer.my_asn == peer.peer_asn) by.advertisement.local_pref;
         };

@@ -36,7 +36,7 @@ module _ (v : ViewValue) (local : LocalNode) (received : Received) where
   sent-own entries e (inl (frame, answer, are)) there = answered-own frame answer
   sent-own entries e (inr (none, are)) there = absurd (subst (λ (es : List TranscriptEntry). IsIn es e) are there)
 
-answers_by : (start : SpeakerState) → TellsWhatIsAnnounced start → SendsWhatIsMeant start → AnswersWhatStands start
+pub answers_by : (start : SpeakerState) → TellsWhatIsAnnounced start → SendsWhatIsMeant start → AnswersWhatStands start
 answers_by start tells sends lines s told taken line t entries goes event reads received is name frame there =
     let meant : SendsAnswer t.view t.local received entries =
     subst (λ (o : Option Received). SendsOf t.view t.local o entries) is (sends lines s told taken line t entries goes event reads) in

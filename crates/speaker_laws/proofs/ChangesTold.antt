@@ -121,7 +121,7 @@ none-answer v node (Some i) frame = go (answer_on v node i frame) where
   go None = record { announced = refl; withdrawn = refl }
   go (Some answer) = record { announced = refl; withdrawn = refl }
 
--- what is told of a change, with what is told to peers behind it
+-- what is told of a change, with what is told to peers after it
 module _ (v : ViewValue) (local : LocalNode) (note : TakeNote) (before after : List AddressValue) (updates : List TranscriptEntry)
     (none : TellsNone updates) where
   abbrev gone : List TranscriptEntry

@@ -4,6 +4,7 @@ use Rattle.std.specs.Prelude.{String}
 use Rattle.command_options.specs.Options.{texts_of}
 use Rattle.speaker_laws.specs.Clauses.{begun_by}
 use Rattle.speaker_laws.specs.Right.{RunsAreRight}
+use Rattle.speaker_laws.proofs.Answered.{answers_by}
 use Rattle.speaker_laws.proofs.Begun.{named-speaks}
 use Rattle.speaker_laws.proofs.ChangesTold.{lines_tell_what_changes}
 use Rattle.speaker_laws.proofs.Fitting.{routes_written_by, written_by}
@@ -25,5 +26,6 @@ right_by words lines =
       at_each = λ earlier later line s t told entries split taken goes. record {
         changes = lines_tell_what_changes (begun_by words) earlier s told taken line t entries goes;
         sends = meant_by texts earlier s told taken line t entries goes;
+        answers = answers_by (begun_by words) (told_by texts) (meant_by texts) earlier s told taken line t entries goes;
       };
     }

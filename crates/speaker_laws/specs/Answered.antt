@@ -20,13 +20,17 @@ use Rattle.speaker_laws.specs.Told.{IsToldOf}
 abbrev pub AsksFor : List ℕ → AddressValue → Type 0
 AsksFor frame a = (a ≡ address_at frame 38) ⊎ (a ≡ ipv6_address (target_of frame))
 
--- At each received frame of a run that is answered, the address that it asks for has an announce line, and no later withdraw line. So none is
--- answered for an address behind its withdraw line, nor ahead of its announce line.
+-- Where the line is a received frame that is answered, the address that it asks for has an announce line by what was told before, and no later withdraw
+-- line. So none is answered for an address after its withdraw line, nor ahead of its announce line.
+abbrev pub IsForWhatStands : (told : List TranscriptEntry) → Line → (entries : List TranscriptEntry) → Type 0
+IsForWhatStands told line entries =
+    (event : Event) → event_of_line line.bytes ≡ Ok event → (received : Received) → frame_in event ≡ Some received
+    → (name frame : List ℕ) → IsIn entries (Sent name frame) → (a : AddressValue) × AsksFor received.frame a × IsToldOf told a
+
+-- so it is at each line of a run
 abbrev pub AnswersWhatStands : SpeakerState → Type 0
 AnswersWhatStands start = (lines : List Line) (s : SpeakerState) (told : List TranscriptEntry) → AreTaken speaker_rules lines start s told
-    → (line : Line) (t : SpeakerState) (entries : List TranscriptEntry) → line_step s line ≡ Goes t entries
-    → (event : Event) → event_of_line line.bytes ≡ Ok event → (received : Received) → frame_in event ≡ Some received
-    → (name frame : List ℕ) → IsIn entries (Sent name frame) → (a : AddressValue) × AsksFor received.frame a × IsToldOf told a
+    → (line : Line) (t : SpeakerState) (entries : List TranscriptEntry) → line_step s line ≡ Goes t entries → IsForWhatStands told line entries
 
 -- so it is whatever the words say, where nothing was shown yet
 abbrev pub AllAnswerWhatStands : Type 0

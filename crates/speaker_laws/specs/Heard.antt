@@ -55,7 +55,7 @@ pub record HasComeSince (start : SpeakerState) (lines : List Line) (peer : Compi
   pub absent : ¬ (IsThere peer s.view)
   pub stays : StaysOver peer later s t told
 
--- The octets of the messages, one behind the other, are messages (RFC 4271, section 4.3), and after them the empty table is this one.
+-- The octets of the messages, one after the other, are messages (RFC 4271, section 4.3), and after them the empty table is this one.
 abbrev pub GiveTable : List (List ℕ) → List (PrefixValue × Terms) → Type 0
 GiveTable messages routes = (p : PrefixValue) → option_map (λ table. table p) (received_bytes (λ q. None) (joined messages)) ≡ Some (terms_at routes p)
 

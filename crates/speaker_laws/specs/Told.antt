@@ -66,7 +66,7 @@ announced_in (Updated peer message ∷ entries) = announced_in entries
 abbrev pub AnnouncesAlone : List ℕ → ViewValue → ViewValue → AddressValue → Type 0
 AnnouncesAlone node v other a = IsAnnouncer v a node × ¬ (IsAnnouncer other a node)
 
--- Withdraw lines tell just what the node announces no more, and behind them announce lines what it announces from now on, each address once, IPv4
+-- Withdraw lines tell just what the node announces no more, and after them announce lines what it announces from now on, each address once, IPv4
 -- before IPv6 and each family ascending.
 pub record TellsChange (node : List ℕ) (before after : ViewValue) (entries : List TranscriptEntry) : Type 0 where
   pub withdrawn : (a : AddressValue) → IsIn (withdrawn_in entries) a ↔ AnnouncesAlone node before after a

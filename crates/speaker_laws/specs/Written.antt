@@ -31,7 +31,7 @@ pub record IsAnnouncedIn (lines : List (List ℕ)) (a : AddressValue) : Type 0 w
   pub split : lines ≡ earlier ++ announce_text a ∷ later
   pub lasts : AllByRecursion (λ line. line ≢ withdraw_text a) later
 
--- After any lines that are taken, one after the other, the addresses with an announce line that is written and no withdraw line written behind it
+-- After any lines that are taken, one after the other, the addresses with an announce line that is written and no withdraw line written after it
 -- are exactly those that the node announces.
 abbrev pub WritesWhatIsAnnounced : SpeakerState → Type 0
 WritesWhatIsAnnounced start = (lines : List Line) (s : SpeakerState) (told : List TranscriptEntry) → AreTaken speaker_rules lines start s told

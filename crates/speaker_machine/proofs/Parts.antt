@@ -160,7 +160,7 @@ part-hops hops change v node peer are =
     hops-by hops.v6 (part_at change v node (both_with hops) peer) (and_parts (same_family hops.v4.family V4) (is_v6 hops.v6) are).1
     (λ none. subst (λ (b : Bool). AreV4 (part_at change v node b peer)) (sym none) (part-v4 change v node peer))
 
--- ---- behind an event what is kept was right for the view before
+-- ---- after an event what is kept was right for the view before
 none-named : (names : List (List ℕ)) (node : List ℕ) → has_text names node ≡ false → ¬ (Contains names node)
 none-named names node none there = true≢false (sym ((has_text-Decides names node).1 there) ∙ none)
 

@@ -44,7 +44,8 @@ impl Speaker {
         ensures state { OnOk result (self.new ≡ state_after self.old event) }
         ensures within { OnOk result (limit_by self.old.view event ≡ None) }
         ensures limit { (kind : Kind) (count : ℕ)
-            → IsErrOf result (ApplyFault.Limit kind count) → limit_by self.old.view event ≡ Some (kind, count) }
+            → IsErrOf result (ApplyFault.Limit kind count)
+            → limit_by self.old.view event ≡ Some (kind, count) }
     {
         // While the view changes, neither announcers nor routes are known to be those of it.
         let announcers = self.announcers.take();
@@ -161,9 +162,12 @@ fn told_since(
     requires announcers { WereKept change standing.old.announcers view.now }
     requires routes { (before : ViewValue)
         × WereRoutes (of_node local.now.node change) standing.old.routes before view.now local.now }
-    ensures entries { IfOk result (λ entries. (before : ViewValue) → AreKeptFor standing.old.announcers before
-        → WereRoutes (of_node local.now.node change) standing.old.routes before view.now local.now → entries
-        ≡ entries_for view.now local.now note (announced_by before local.now.node) (announced_by view.now local.now.node)
+    ensures entries { IfOk result (λ entries. (before : ViewValue)
+        → AreKeptFor standing.old.announcers before
+        → WereRoutes (of_node local.now.node change) standing.old.routes before view.now local.now
+        → entries
+        ≡ entries_for view.now local.now note (announced_by before local.now.node)
+        (announced_by view.now local.now.node)
         ++ updates_by before view.now local.now.node local.now.next_hops) }
     ensures announcers { OnOk result (AreKeptFor standing.new.announcers view.now) }
     ensures routes { OnOk result (AreRoutesOf standing.new.routes view.now local.now) }
@@ -207,7 +211,8 @@ fn changed_entries(
 ) -> Result<Sequence<TranscriptEntry>, NoMemory>
     requires { WereKept change.now announcers.old view.now }
     ensures entries { IfOk result (λ entries. (was : ViewValue) → AreKeptFor announcers.old was
-        → entries ≡ entries_for view.now local.now note (announced_by was local.now.node) (announced_by view.now local.now.node)) }
+        → entries ≡ entries_for view.now local.now note (announced_by was local.now.node)
+        (announced_by view.now local.now.node)) }
     ensures announcers { OnOk result (AreKeptFor announcers.new view.now) }
 {
     let changes = match renew_announcers(alloc, announcers, view, &local.node, change) {

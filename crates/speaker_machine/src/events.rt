@@ -7,7 +7,8 @@ ghost use Rattle.l2_elect.specs.Kept.{AreKnown};
 ghost use Rattle.line_run.specs.Machine.{Goes};
 ghost use Rattle.speaker_machine.specs.Seen.{received_seen};
 ghost use Rattle.speaker_machine.specs.Sends.{answers};
-ghost use Rattle.speaker_machine.specs.Stream.{state_after, frame_in, entries_of, step_by, IsUnapplied, what_of};
+ghost use Rattle.speaker_machine.specs.Stream.{state_after, frame_in, entries_of, step_by};
+ghost use Rattle.speaker_machine.specs.Stream.{IsUnapplied, what_of};
 
 use crate::local_node::LocalNode;
 use crate::sends::answers;
@@ -55,7 +56,8 @@ fn entries_by(
     ensures state { OnOk result (speaker.new ≡ state_after speaker.old event) }
     ensures within { OnOk result (limit_by speaker.old.view event ≡ None) }
     ensures limit { (kind : Kind) (count : ℕ)
-        → IsErrOf result (ApplyFault.Limit kind count) → limit_by speaker.old.view event ≡ Some (kind, count) }
+        → IsErrOf result (ApplyFault.Limit kind count)
+        → limit_by speaker.old.view event ≡ Some (kind, count) }
 {
     match answers_to(
         alloc,
@@ -85,7 +87,8 @@ fn answers_to(
     event: &Event,
 ) -> Result<Option<Sequence<TranscriptEntry>>, NoMemory>
     requires { AreKnown (option_copied announcers) view.now }
-    ensures { IfOk result (λ entries. entries ≡ option_map (λ r. answers view.now local.now r.interface r.frame) (frame_in event.now)) }
+    ensures { IfOk result (λ entries. entries
+        ≡ option_map (λ r. answers view.now local.now r.interface r.frame) (frame_in event.now)) }
 {
     let Some(received) = frame_in(event) else {
         return Ok(None);
@@ -120,7 +123,8 @@ pub(crate) fn frame_in(event: &Event) -> Option<Received<'_>>
     }
 }
 
-/// What there is too much of where a limit of the kind is passed; services and nodes alone have one.
+/// What there is too much of where a limit of the kind is passed; services and nodes alone have
+/// one.
 fn what_of(kind: Kind) -> What
     ensures { result ≡ what_of kind }
 {

@@ -1,4 +1,5 @@
-//! The speaker, as a machine over the items of two lanes: the watched objects, and the received frames.
+//! The speaker, as a machine over the items of two lanes: the watched objects, and the received
+//! frames.
 ghost use Rattle.std.specs.Prelude.{◌≡◌, ◌≤◌, ◌++◌, OnOk, IfOk, IfErr, Err};
 ghost use Rattle.kube_lines.specs.OutputLines.{took_text};
 ghost use Rattle.lane_drive.specs.LaneRules.{TakesItem, RefusesItem};
@@ -37,7 +38,8 @@ impl Lanes for Speaker {
 
 impl LaneMachine for Speaker {
     ghost use Rattle.std.specs.Prelude.{refl};
-    ghost use Rattle.speaker_machine.specs.Causes.{items_stop, awaits_none, names_taken, names_differ};
+    ghost use Rattle.speaker_machine.specs.Causes.{items_stop, awaits_none, names_taken};
+    ghost use Rattle.speaker_machine.specs.Causes.{names_differ};
     ghost use Rattle.speaker_machine.specs.Lanes.{lane_rules};
     ghost use Rattle.speaker_machine.specs.Stream.{SpeakerState};
     ghost use Rattle.speaker_machine.specs.declared.transcript.TranscriptEntry.{TranscriptEntry as SpeakerEntry};
@@ -108,7 +110,8 @@ pub fn name_of(lane: Lane) -> LaneName
     }
 }
 
-/// Applies the item's event to the view, and writes the line that tells of the item, and then what comes of it.
+/// Applies the item's event to the view, and writes the line that tells of the item, and then what
+/// comes of it.
 fn drive_item<K: Sink>(
     alloc: Global,
     speaker: &mut Speaker,
@@ -142,7 +145,8 @@ pub fn write_item<K: Sink>(
 ) -> Result<(), Halt>
     ensures ok { OnOk result (Grows (K.written out.old) (K.written out.new)
         (line_of (took_text (name_of lane) number) ++ text_of speaker_rules entries.now)) }
-    ensures err { IfErr result (λ halt. Halts halt (line_of (took_text (name_of lane) number) ++ text_of speaker_rules entries.now)
+    ensures err { IfErr result (λ halt. Halts halt
+        (line_of (took_text (name_of lane) number) ++ text_of speaker_rules entries.now)
         (K.written out.old) (K.written out.new) (K.faults out.old) (K.faults out.new)) }
     ensures later { K.faults out.old ≤ K.faults out.new }
 {

@@ -95,7 +95,8 @@ fn owned_interfaces(
     alloc: Global,
     words: &[InterfaceWord<'_>],
 ) -> Result<Sequence<Interface>, NoMemory>
-    ensures { IfOk result (λ interfaces. interfaces ≡ map interface_by (map interface_seen words.now)) }
+    ensures { IfOk result (λ interfaces. interfaces
+        ≡ map interface_by (map interface_seen words.now)) }
 {
     let mut interfaces = Sequence::new(alloc);
     for word in words {

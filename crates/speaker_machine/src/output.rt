@@ -22,7 +22,8 @@ pub(crate) fn write_entries<K: Sink>(
     out: &mut K,
     entries: &[TranscriptEntry],
 ) -> Result<(), Halt>
-    ensures ok { OnOk result (Grows (K.written out.old) (K.written out.new) (text_of speaker_rules entries.now)) }
+    ensures ok { OnOk result (Grows (K.written out.old) (K.written out.new)
+        (text_of speaker_rules entries.now)) }
     ensures err { IfErr result (λ halt. Halts halt (text_of speaker_rules entries.now)
         (K.written out.old) (K.written out.new) (K.faults out.old) (K.faults out.new)) }
     ensures later { K.faults out.old ≤ K.faults out.new }
@@ -36,7 +37,8 @@ pub(crate) fn write_entries<K: Sink>(
 }
 
 fn write_entry<K: Sink>(alloc: Global, out: &mut K, entry: &TranscriptEntry) -> Result<(), Halt>
-    ensures ok { OnOk result (Grows (K.written out.old) (K.written out.new) (entry_text entry.now)) }
+    ensures ok { OnOk result (Grows (K.written out.old) (K.written out.new)
+        (entry_text entry.now)) }
     ensures err { IfErr result (λ halt. Halts halt (entry_text entry.now)
         (K.written out.old) (K.written out.new) (K.faults out.old) (K.faults out.new)) }
     ensures later { K.faults out.old ≤ K.faults out.new }
@@ -72,7 +74,8 @@ fn write_update<K: Sink>(
     peer: &Text,
     message: &ByteList,
 ) -> Result<(), Halt>
-    ensures ok { OnOk result (Grows (K.written out.old) (K.written out.new) (line_of (update_text peer.now message.now))) }
+    ensures ok { OnOk result (Grows (K.written out.old) (K.written out.new)
+        (line_of (update_text peer.now message.now))) }
     ensures err { IfErr result (λ halt. Halts halt (line_of (update_text peer.now message.now))
         (K.written out.old) (K.written out.new) (K.faults out.old) (K.faults out.new)) }
     ensures later { K.faults out.old ≤ K.faults out.new }
@@ -96,7 +99,8 @@ pub fn write_sent<K: Sink>(
     interface: &Text,
     frame: &[u8],
 ) -> Result<(), Halt>
-    ensures ok { OnOk result (Grows (K.written out.old) (K.written out.new) (line_of (send_text interface.now frame.now))) }
+    ensures ok { OnOk result (Grows (K.written out.old) (K.written out.new)
+        (line_of (send_text interface.now frame.now))) }
     ensures err { IfErr result (λ halt. Halts halt (line_of (send_text interface.now frame.now))
         (K.written out.old) (K.written out.new) (K.faults out.old) (K.faults out.new)) }
     ensures later { K.faults out.old ≤ K.faults out.new }

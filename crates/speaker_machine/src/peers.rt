@@ -1,5 +1,6 @@
 //! The routes that are told to BGP peers.
-ghost use Rattle.std.specs.Prelude.{◌≡◌, ◌++◌, ◌∷◌, [], if◌then◌else◌, true, map, All, IfOk, IfSome, OnOk};
+ghost use Rattle.std.specs.Prelude.{◌≡◌, ◌++◌, ◌∷◌, [], if◌then◌else◌, true, map, All, IfOk};
+ghost use Rattle.std.specs.Prelude.{IfSome, OnOk};
 ghost use Rattle.std.specs.List.{flat_map};
 ghost use Rattle.std.specs.Option.{option_map};
 ghost use Rattle.speaker_view.specs.ViewValue.{ViewValue};
@@ -7,8 +8,10 @@ ghost use Rattle.bgp_updates.specs.Between.{HasHops};
 ghost use Rattle.bgp_updates.specs.Tables.{HasFew};
 ghost use Rattle.bgp_routes.specs.Kept.{AreKeptFor};
 ghost use Rattle.bgp_routes.specs.Peers.{peers_of, table_found, tables_of};
-ghost use Rattle.speaker_machine.specs.Kept.{AreRoutesOf, WereKept, WereRoutes, changed_part, part_at, part_updates, updates_of};
-ghost use Rattle.speaker_machine.specs.Updates.{are_hops, both_with, is_v6, updated, updates_by, updates_to};
+ghost use Rattle.speaker_machine.specs.Kept.{AreRoutesOf, WereKept, WereRoutes, changed_part};
+ghost use Rattle.speaker_machine.specs.Kept.{part_at, part_updates, updates_of};
+ghost use Rattle.speaker_machine.specs.Updates.{are_hops, both_with, is_v6, updated, updates_by};
+ghost use Rattle.speaker_machine.specs.Updates.{updates_to};
 
 use crate::local_node::{LocalNode, NextHops};
 use crate::transcript::TranscriptEntry;
@@ -50,9 +53,9 @@ fn rebuilt(view: &View, mut kept: KeptRoutes) -> Result<KeptRoutes, NoMemory>
     }
 }
 
-/// Makes the routes those of the view, where they are so already but for what the change may have changed, and tells the peers what that
-/// changes of their tables: of the parts at the listed addresses, unless all may have changed. After an error nothing is known of the
-/// routes.
+/// Makes the routes those of the view, where they are so already but for what the change may have
+/// changed, and tells the peers what that changes of their tables: of the parts at the listed
+/// addresses, unless all may have changed. After an error nothing is known of the routes.
 pub(crate) fn renew_routes(
     alloc: Global,
     entries: &mut Sequence<TranscriptEntry>,
@@ -62,8 +65,10 @@ pub(crate) fn renew_routes(
     kept: &mut KeptRoutes,
 ) -> Result<(), NoMemory>
     requires { (before : ViewValue) × WereRoutes change.now kept.old before view.now local.now }
-    ensures entries { OnOk result ((before : ViewValue) → WereRoutes change.now kept.old before view.now local.now
-        → entries.new ≡ entries.old ++ updates_by before view.now local.now.node local.now.next_hops) }
+    ensures entries { OnOk result ((before : ViewValue)
+        → WereRoutes change.now kept.old before view.now local.now
+        → entries.new ≡ entries.old ++ updates_by before view.now local.now.node
+        local.now.next_hops) }
     ensures kept { OnOk result (AreRoutesOf kept.new view.now local.now) }
 {
     match &local.next_hops {
@@ -116,13 +121,16 @@ fn renew_told(
     requires hops { are_hops hops.now ≡ true }
     requires both { kept.old.both ≡ both_with hops.now }
     requires kept { (before : ViewValue) × WereKept change.now kept.old before view.now }
-    ensures entries { OnOk result ((before : ViewValue) → WereKept change.now kept.old before view.now
-        → entries.new ≡ entries.old ++ flat_map (updates_to before view.now kept.old.node hops.now) (peers_of view.now)) }
+    ensures entries { OnOk result ((before : ViewValue)
+        → WereKept change.now kept.old before view.now
+        → entries.new ≡ entries.old ++ flat_map (updates_to before view.now kept.old.node hops.now)
+        (peers_of view.now)) }
     ensures node { kept.new.node ≡ kept.old.node }
     ensures both { kept.new.both ≡ kept.old.both }
     ensures right { OnOk result (AreKeptFor view.now kept.new) }
 {
-    // A configuration's peers have names of their own, and its communities are few: so parts tell all.
+    // A configuration's peers have names of their own, and its communities are few: so parts tell
+    // all.
     let _known = view.config();
     let peers = peers_of(view);
     let before = parts_kept(alloc, kept, peers, change)?;
@@ -141,7 +149,8 @@ fn parts_kept(
     peers: &[CompiledPeer],
     change: &ViewChange,
 ) -> Result<Sequence<RouteTable>, NoMemory>
-    ensures { IfOk result (λ parts. (v : ViewValue) → AreKeptFor v kept.now → parts ≡ map (part_at change.now v kept.now.node kept.now.both) peers.now) }
+    ensures { IfOk result (λ parts. (v : ViewValue) → AreKeptFor v kept.now
+        → parts ≡ map (part_at change.now v kept.now.node kept.now.both) peers.now) }
 {
     let mut parts = Sequence::new(alloc);
     for peer in peers {
@@ -157,7 +166,8 @@ fn part_kept(
     peer: &CompiledPeer,
     change: &ViewChange,
 ) -> Result<RouteTable, NoMemory>
-    ensures part { IfOk result (λ part. (v : ViewValue) → AreKeptFor v kept.now → part ≡ part_at change.now v kept.now.node kept.now.both peer.now) }
+    ensures part { IfOk result (λ part. (v : ViewValue) → AreKeptFor v kept.now
+        → part ≡ part_at change.now v kept.now.node kept.now.both peer.now) }
     ensures few { IfOk result (λ part. All HasFew part) }
 {
     match found_part(kept, peer, change)? {
@@ -173,7 +183,8 @@ fn found_part(
     change: &ViewChange,
 ) -> Result<Option<RouteTable>, NoMemory>
     ensures part { (v : ViewValue) → AreKeptFor v kept.now
-        → IfOk result (λ found. found ≡ option_map (changed_part change.now v) (table_found peer.now (tables_of v kept.now.node kept.now.both))) }
+        → IfOk result (λ found. found ≡ option_map (changed_part change.now v)
+        (table_found peer.now (tables_of v kept.now.node kept.now.both))) }
     ensures few { IfOk result (λ found. IfSome found (λ part. All HasFew part)) }
 {
     if change.all {
@@ -195,9 +206,13 @@ fn push_changes(
     requires hops { are_hops hops.now ≡ true }
     requires both { kept.now.both ≡ both_with hops.now }
     requires kept { (now : ViewValue) × AreKeptFor now kept.now }
-    requires before { (was : ViewValue) × (before.now ≡ map (part_at change.now was kept.now.node kept.now.both) peers.now) }
-    ensures { OnOk result ((was now : ViewValue) → before.now ≡ map (part_at change.now was kept.now.node kept.now.both) peers.now → AreKeptFor now kept.now
-        → entries.new ≡ entries.old ++ flat_map (part_updates change.now was now kept.now.node hops.now) peers.now) }
+    requires before { (was : ViewValue)
+        × (before.now ≡ map (part_at change.now was kept.now.node kept.now.both) peers.now) }
+    ensures { OnOk result ((was now : ViewValue)
+        → before.now ≡ map (part_at change.now was kept.now.node kept.now.both) peers.now
+        → AreKeptFor now kept.now
+        → entries.new ≡ entries.old ++ flat_map
+        (part_updates change.now was now kept.now.node hops.now) peers.now) }
 {
     for place in 0..peers.len() {
         let peer = &peers[place];
@@ -219,7 +234,8 @@ fn push_change(
     requires hops { are_hops hops.now ≡ true }
     requires told { HasHops hops.now.v6 after.now }
     requires few { All HasFew after.now }
-    ensures { OnOk result (entries.new ≡ entries.old ++ updates_of before.now after.now hops.now peer.now) }
+    ensures { OnOk result (entries.new
+        ≡ entries.old ++ updates_of before.now after.now hops.now peer.now) }
 {
     let messages = updates(alloc, before, after, peer, &hops.v4, hops.v6.as_ref())?;
     for message in messages.as_slice() {

@@ -4,7 +4,8 @@ ghost use Rattle.std.specs.Option.{option_copied};
 ghost use Rattle.l2_elect.specs.Kept.{AreKeptFor, AreKnown};
 ghost use Rattle.l2_elect.specs.Listening.{listens_of};
 ghost use Rattle.speaker_machine.specs.declared.transcript.TranscriptEntry.TheVariants as told;
-ghost use Rattle.speaker_machine.specs.Sends.{unsolicited_by, unsolicited, answer_on, sent_on, answers};
+ghost use Rattle.speaker_machine.specs.Sends.{unsolicited_by, unsolicited, answer_on, sent_on};
+ghost use Rattle.speaker_machine.specs.Sends.{answers};
 
 use crate::local_node::{Interface, LocalNode};
 use crate::transcript::TranscriptEntry;
@@ -23,7 +24,8 @@ fn push_sent(
     interface: &Interface,
     frame: &[u8],
 ) -> Result<(), NoMemory>
-    ensures { OnOk result (entries.new ≡ entries.old ++ told.Sent interface.now.name frame.now ∷ []) }
+    ensures { OnOk result (entries.new
+        ≡ entries.old ++ told.Sent interface.now.name frame.now ∷ []) }
 {
     let frame = ByteList::from_slice(alloc, frame)?;
     let interface = interface.name.copy()?;
@@ -37,7 +39,8 @@ fn push_unasked(
     interface: &Interface,
     address: &Address,
 ) -> Result<(), NoMemory>
-    ensures { OnOk result (entries.new ≡ entries.old ++ unsolicited_by address.now interface.now ∷ []) }
+    ensures { OnOk result (entries.new
+        ≡ entries.old ++ unsolicited_by address.now interface.now ∷ []) }
 {
     match address.family {
         Family::V4 => push_sent(
@@ -55,7 +58,8 @@ fn push_unasked(
     }
 }
 
-/// Has the unsolicited frame of the address sent by each interface on which the node listens for it.
+/// Has the unsolicited frame of the address sent by each interface on which the node listens for
+/// it.
 pub(crate) fn push_all_unasked(
     alloc: Global,
     entries: &mut Sequence<TranscriptEntry>,
@@ -65,7 +69,8 @@ pub(crate) fn push_all_unasked(
     address: &Address,
 ) -> Result<(), NoMemory>
     requires { AreKeptFor announcers.now view.now }
-    ensures { OnOk result (entries.new ≡ entries.old ++ unsolicited view.now local.now address.now) }
+    ensures { OnOk result (entries.new
+        ≡ entries.old ++ unsolicited view.now local.now address.now) }
 {
     for interface in local.interfaces.as_slice() {
         if is_listening(view, announcers, local, interface, address) {
@@ -104,7 +109,8 @@ pub(crate) fn answers(
     frame: &[u8],
 ) -> Result<Sequence<TranscriptEntry>, NoMemory>
     requires { AreKnown (option_copied announcers) view.now }
-    ensures { IfOk result (λ entries. entries ≡ answers view.now local.now interface.now frame.now) }
+    ensures { IfOk result (λ entries. entries
+        ≡ answers view.now local.now interface.now frame.now) }
 {
     let mut entries = Sequence::new(alloc);
     if let Some(interface) = local.interface(interface) {
@@ -121,7 +127,8 @@ pub(crate) fn answers(
     Ok(entries)
 }
 
-/// Has the answer to the frame sent by the interface that received it, where there is one: that of ARP, else that of Neighbor Discovery.
+/// Has the answer to the frame sent by the interface that received it, where there is one: that of
+/// ARP, else that of Neighbor Discovery.
 fn push_answer(
     alloc: Global,
     entries: &mut Sequence<TranscriptEntry>,
@@ -132,7 +139,9 @@ fn push_answer(
     frame: &[u8],
 ) -> Result<(), NoMemory>
     requires { AreKnown (option_copied announcers) view.now }
-    ensures { OnOk result (entries.new ≡ entries.old ++ sent_on interface.now (answer_on view.now node.now interface.now frame.now)) }
+    ensures { OnOk result (entries.new
+        ≡ entries.old ++ sent_on interface.now
+        (answer_on view.now node.now interface.now frame.now)) }
 {
     let node = node.as_str();
     let name = interface.name.as_str();

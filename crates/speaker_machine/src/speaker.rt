@@ -1,5 +1,8 @@
 //! The speaker, as a machine over lines.
 ghost use Rattle.std.specs.Prelude.{◌≡◌, IfOk};
+ghost use Rattle.std.specs.Option.{option_copied};
+ghost use Rattle.l2_elect.specs.Election.{announces_of, is_named};
+ghost use Rattle.l2_elect.specs.Kept.{AreKnown};
 ghost use Rattle.speaker_words.specs.Seen.{said_seen};
 ghost use Rattle.speaker_machine.specs.Stream.{first_state};
 
@@ -7,8 +10,10 @@ use crate::events::apply_event;
 use crate::local_node::LocalNode;
 use crate::output::write_entries;
 use bgp_routes::KeptRoutes;
+use ip_ranges::Address;
+use kube_labels::Text;
 use kube_model::Status;
-use l2_elect::Announcers;
+use l2_elect::{Announcers, announces};
 use line_run::{Machine, Refusal};
 use mlb_base::NoMemory;
 use mlb_edge::{Line, Sink};
@@ -23,7 +28,8 @@ use std::marker::Model;
 pub struct Speaker {
     pub(crate) view: View,
     pub(crate) local: LocalNode,
-    // who announces each address by the view, once it is known: most events change it at few addresses
+    // who announces each address by the view, once it is known: most events change it at few
+    // addresses
     pub(crate) announcers: Option<Announcers>,
     // the routes of all peers by the view, where there is a next hop, once they are known
     pub(crate) routes: Option<KeptRoutes>,
@@ -53,7 +59,8 @@ impl Model for Speaker {
 }
 
 impl Speaker {
-    /// A speaker that was shown nothing, where the words say. It announces services of their class, or those without one.
+    /// A speaker that was shown nothing, where the words say. It announces services of their class,
+    /// or those without one.
     pub fn new(alloc: Global, said: &SpeakerWords<'_>) -> Result<Speaker, NoMemory>
         ensures { IfOk result (λ speaker. speaker ≡ first_state (said_seen said.now)) }
     {
@@ -65,6 +72,42 @@ impl Speaker {
             announcers: None,
             routes: None,
         })
+    }
+
+    /// Whether the node announces the address by what was shown. It takes no memory, and is a
+    /// look-up.
+    pub fn announces(&self, address: &Address) -> bool
+        ensures { result ≡ announces_of self.now.view self.now.local.node address.now }
+    {
+        let announcers = self.announcers.as_ref();
+        announces_known(&self.view, announcers, &self.local.node, address)
+    }
+}
+
+/// Whether the node announces the address, by the announcers of the view where they are known: then
+/// no election is held.
+fn announces_known(
+    view: &View,
+    announcers: Option<&Announcers>,
+    node: &Text,
+    address: &Address,
+) -> bool
+    requires { AreKnown (option_copied announcers) view.now }
+    ensures { result ≡ announces_of view.now node.now address.now }
+{
+    match announcers {
+        Some(announcers) => is_named(node, announcers.of(address)),
+        None => announces(view, node.as_str(), address),
+    }
+}
+
+/// Whether there is an announcer, and it is the node.
+fn is_named(node: &Text, announcer: Option<&Text>) -> bool
+    ensures { result ≡ is_named node.now (option_copied announcer.entry) }
+{
+    match announcer {
+        Some(announcer) => announcer == node,
+        None => false,
     }
 }
 

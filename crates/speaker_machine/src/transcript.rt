@@ -43,7 +43,8 @@ pub(crate) fn entries_for(
 ) -> Result<Sequence<TranscriptEntry>, NoMemory>
     requires { AreKeptFor announcers.now view.now }
     ensures { IfOk result (λ entries. entries
-        ≡ TranscriptEntry.Noted note ∷ map withdrawn changes.now.withdrawn.keys ++ flat_map (announcement view.now local.now) changes.now.announced.keys) }
+        ≡ TranscriptEntry.Noted note ∷ map withdrawn changes.now.withdrawn.keys
+        ++ flat_map (announcement view.now local.now) changes.now.announced.keys) }
 {
     let mut entries = Sequence::new(alloc);
     entries.push(TranscriptEntry::Noted { note })?;
@@ -80,7 +81,8 @@ fn push_announcements(
     addresses: &BTreeSet<Address>,
 ) -> Result<(), NoMemory>
     requires { AreKeptFor announcers.now view.now }
-    ensures { OnOk result (entries.new ≡ entries.old ++ flat_map (announcement view.now local.now) addresses.now.keys) }
+    ensures { OnOk result (entries.new
+        ≡ entries.old ++ flat_map (announcement view.now local.now) addresses.now.keys) }
 {
     for address in addresses {
         push_announcement(alloc, entries, view, announcers, local, address)?;
@@ -98,7 +100,8 @@ fn push_announcement(
     address: &Address,
 ) -> Result<(), NoMemory>
     requires { AreKeptFor announcers.now view.now }
-    ensures { OnOk result (entries.new ≡ entries.old ++ announcement view.now local.now address.now) }
+    ensures { OnOk result (entries.new
+        ≡ entries.old ++ announcement view.now local.now address.now) }
 {
     entries.push(TranscriptEntry::Announced { address: *address })?;
     push_all_unasked(alloc, entries, view, announcers, local, address)

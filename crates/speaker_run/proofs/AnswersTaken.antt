@@ -2,7 +2,7 @@
 use Rattle.std.proofs.Common.{◌≡◌, ℕ, ◌≤◌, Bool, true, false, cond, List, [], ◌∷◌, ◌++◌, length, map, take, Option, Some}
 use Rattle.std.proofs.Common.{refl, sym, ap, ◌∙◌, subst, arith, inl, inr, append_assoc}
 use Rattle.std.proofs.lemmas.Bool.{false≢true}
-use Rattle.std.proofs.lemmas.List.{map-append, take-append-le}
+use Rattle.std.proofs.lemmas.List.{append-nil, map-append, take-append-le}
 use Rattle.std.proofs.lemmas.List.Elements.{filter-append}
 use Rattle.std.specs.Prelude.{is_none, String}
 use mathlib.Core.List.{IsPrefix}
@@ -18,16 +18,20 @@ use Rattle.lane_run.specs.Watched.{Begins}
 use Rattle.mlb_base.proofs.Lists.{all-behind, all-front}
 use Rattle.mlb_base.specs.Items.{IsIn}
 use Rattle.speaker_machine.specs.Lanes.{belongs_to}
+use Rattle.speaker_machine.specs.declared.local_node.LocalNode.{LocalNode}
 use Rattle.speaker_machine.specs.Stream.{SpeakerState, Received, frame_in}
 use Rattle.speaker_run.proofs.Responded.{answers_told}
 use Rattle.speaker_run.proofs.RespondedLines.{answers_are_frames, sided, taken_shows, watch_as_lines}
 use Rattle.speaker_run.proofs.RespondedShown.{IsLaned, events_of_first, laned}
 use Rattle.speaker_run.proofs.ShownSteps.{IsSided, frame_step}
-use Rattle.speaker_run.specs.ResponderClauses.{AnswersWhatIsTaken, EachAnswers, RespondsRightly, answering}
-use Rattle.speaker_run.specs.Responding.{AnswersItem, AreAnswered, answer_in, answer_octets, seen_in, shown_rules, unshown, watch_events}
+use Rattle.speaker_run.specs.ResponderClauses.{AnswersWhatIsTaken, EachAnswers, EachSends, RespondsRightly, answering, told_of_watch}
+use Rattle.speaker_run.specs.Responding.{AnswersItem, AreAnswered, answer_in, answer_octets, seen_in, sent_answer, shown_rules, unshown, watch_events}
+use Rattle.speaker_run.specs.Standing.{standing_answer}
 use Rattle.lane_drive.specs.Clauses.{WritesOf}
 use Rattle.speaker_laws.specs.Clauses.{begun_by}
 use Rattle.speaker_laws.proofs.Right.{right_by}
+use Rattle.speaker_laws.proofs.Telling.{station_kept}
+use Rattle.speaker_run.proofs.AnswersSent.{sends_standing}
 
 -- of two beginnings of one list, as many first elements are the same
 takes_same : {A : Type 0} (n : ℕ) (xs ys zs : List A) → IsPrefix xs zs → IsPrefix ys zs → n ≤ length xs → n ≤ length ys → take n xs ≡ take n ys
@@ -117,7 +121,6 @@ module _ (start : SpeakerState) where
       let same : take last.seen by.events ≡ take last.seen (watch_events items) =
       takes_same last.seen by.events (watch_events items) all of_file of_items own.few (omega (arith, few, sees)) in
       record {
-        told = step.are;
         few = few;
         frames = seconds.items;
         begins = seconds.begins;
@@ -130,7 +133,7 @@ module _ (start : SpeakerState) where
         right = rw (sees, octets, sym same) own.answered;
       }
 
--- ---- of items that are taken, behind those before each
+-- ---- of items that are taken, after those before each
 -- the first answers are those to the first frames
 answered_front : (start : SpeakerState) (events : List Event) (low : ℕ) (items front rest : List Item) → AreAnswered start events low items (front ++ rest)
     → (first : List Item) × IsPrefix first items × AreAnswered start events low first front
@@ -164,6 +167,24 @@ each_answers start first second items begins bytes told earlier later item split
     answers_taken start bytes second earlier item replies s t entries_before answered entries
     (subst (λ (left : Option (List ℕ)). (answering start left).Begins left second (earlier ++ item ∷ [])) told front) taken goes is
 
+-- ---- which answers are sent
+pub each_sends : {Z : Type 0} → (words : List (String Z)) (first second : Option (List ℕ)) (items : List Item)
+    → (answering (begun_by words) first).Begins first second items → EachSends (begun_by words) items
+each_sends words first second items begins earlier later item split replies s t told taken answered entries goes is =
+    let start = begun_by words in
+    let front : (answering start first).Begins first second earlier =
+    begins_front start first second earlier (item ∷ later) (subst ((answering start first).Begins first second) split begins) in
+    let lines = watch_as_lines start first second earlier replies s told front taken in
+    let all = told_of_watch told in
+    let right = (right_by words lines.lines).so_far lines.lines [] s.speaker all (sym (append-nil lines.lines)) lines.taken in
+    let own : s.speaker.local.node ≡ start.local.node =
+    ap (λ (local : LocalNode). local.node) (station_kept lines.lines start s.speaker all lines.taken) in
+    record {
+      sent = sent_answer answered.interface (standing_answer s.speaker (answer_in answered.frame));
+      are = (frame_step s t item entries answered is goes).are;
+      sends = sends_standing start.local.node s.speaker own all right.announced answered.interface (answer_in answered.frame);
+    }
+
 -- ---- what was written is right
 pub responds_rightly : {Z : Type 0} → (words : List (String Z)) (first second left before after : Option (List ℕ))
     → WritesOf (answering (begun_by words) first) shown_rules (unshown (begun_by words)) first second left before after
@@ -174,5 +195,6 @@ responds_rightly words first second left before after written =
       written = written;
       as_lines = lines;
       right = right_by words lines.lines;
+      sends = each_sends words first second written.items written.begin;
       answers = each_answers (begun_by words) first second written.items written.begin;
     }

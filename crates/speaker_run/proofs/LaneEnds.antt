@@ -142,7 +142,7 @@ module _ {S E : Type 0} (sending : Sending) (rules : LaneRules S E) (plain : Pla
     wrote = upto_none before [];
   }
 
-  -- a run that wrote so much ends for want of memory
+  -- a run that wrote so much ends where memory ran out
   pub ends_short : (file file' : List ℕ) (files files' : FilesState) (first second input input' : SourceState) (before after : Option (List ℕ)) (k n : ℕ)
       → WritesOf sending rules start first.left second.left input.left before after
       → EndOf sending rules start file file' files files' first second input input' before after k n statuses.NoMemory
@@ -192,7 +192,7 @@ stops_at : (frame : Option Received) (s : ShownState) (event : Event) (status : 
 stops_at None s event status e =
     limit_ends (limit_by s.speaker.view event) s.speaker event status refl (stops_as s event status (step_by s.speaker event) e)
 stops_at (Some answered) s event status e =
-    let is = answer_stops (nat_le (seen_in answered.frame) (length s.board.published)) s (told_answer answered) status e in
+    let is = answer_stops (nat_le (seen_in answered.frame) (length s.board.published)) s (told_answer s.speaker answered) status e in
     subst CanEndLanes (sym is) tt
 
 shown_stops : (s : ShownState) (item : Item) (status : Status) → shown_rules.take s item ≡ Stops status → CanEndLanes status

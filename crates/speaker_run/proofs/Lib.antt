@@ -1,5 +1,6 @@
 pub mod Unseen
 pub mod AnsweredBy
+pub mod AnswersSent
 pub mod AnswersTaken
 pub mod Responded
 pub mod RespondedComplete

@@ -72,7 +72,7 @@ answer_taken item items s answered is rest = by (nat_le (seen_in answered.frame)
   step = ap (λ (frame : Option Received). shown_step_at frame s item.event) is
 
   by : (few : Bool) → nat_le (seen_in answered.frame) (length s.board.published) ≡ few → Taken s (item ∷ items) ⊎ Wants s (item ∷ items)
-  by true e = one_more item items s s (told_answer answered) (step ∙ rw e refl) rest
+  by true e = one_more item items s s (told_answer s.speaker answered) (step ∙ rw e refl) rest
   by false e =
       inr (record { front = []; item = item; others = items; items_are = refl; state = s; told = []; taken = (refl, refl, refl); stops = step ∙ rw e refl })
 

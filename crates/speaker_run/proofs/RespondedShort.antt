@@ -33,7 +33,7 @@ no_frame item answered none is = cc
 -- one item more
 module _ (most : ℕ) (item : Item) (items : List Item) (s next : ShownState) (entries : List ShownEntry) (no_pending : s.board.pending ≡ [])
     (steps : shown_rules.take s item ≡ Goes next entries) (few : length s.board.published + length (watch_events (item ∷ items)) ≤ most) where
-  -- it is by no more, and no more is published behind it
+  -- it is by no more, and no more is published after it
   record OneMore : Type 0 where
     own : IsSeenUpTo most item
     more : length next.board.published + length (watch_events items) ≤ most

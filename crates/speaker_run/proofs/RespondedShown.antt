@@ -106,7 +106,7 @@ module _ (first second : Option (List ℕ)) (v w : Answering) (items : List Item
   items_laned = laned first items firsts_begin seconds_frames
 
 -- ---- what is published
--- what is published behind these items are the first events of the watched lane
+-- what is published after these items are the first events of the watched lane
 pub published_of_watch : (first second : Option (List ℕ)) (v w : Answering) (board : Boarded Event) (driven : List Item) (refused : Option Item)
     → (turned_by v w).Begins first second (driven ++ option_to_list refused) → HasShown board driven refused → AreOfWatch first board.published
 published_of_watch first second v w board driven refused b shown = by refused b shown where

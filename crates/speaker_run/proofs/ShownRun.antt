@@ -22,25 +22,25 @@ use Rattle.speaker_run.proofs.RespondedShort.{writes_short}
 use Rattle.speaker_run.proofs.RespondedShown.{published_of_watch, turned_by}
 use Rattle.speaker_run.proofs.Unseen.{opens_unseen}
 
-module _ {start : SpeakerState} {files : LaneNames} {bytes : List ℕ → Option (List ℕ)} {safe : List ℕ → Bool} {seen seen' : FilesState}
+module _ {start : SpeakerState} {files : LaneNames} {bytes : List ℕ → Option (List ℕ)} {unfailing : List ℕ → Bool} {seen seen' : FilesState}
     {input input' : SourceState} {before after : Option (List ℕ)} {writes writes' : ℕ} (s : ShownState) (is : s ≡ unshown start)
     (v w : Answering) (fresh : v ≡ unseen start) (board : Boarded Event)
     (left : LeavesMachine (turned_by v w) shown_rules s (HasShown board) (bytes files.first) (bytes files.second) (to_come drive.unread input.left)
     before after) where
   -- what was seen begins what is published
   pub run_shown : (status : Status) → IsPrefix w.sight.seen board.published
-      → drive.EndOf (turned_by v w) shown_rules s files.first files.second seen seen' (opened bytes safe files.first) (opened bytes safe files.second)
+      → drive.EndOf (turned_by v w) shown_rules s files.first files.second seen seen' (opened bytes unfailing files.first) (opened bytes unfailing files.second)
       input input' before after writes writes' status
       → drive.DoneOf (turned_by v w) shown_rules s (bytes files.first) (bytes files.second) status input.left input'.left before after
       → drive.WritesOf (turned_by v w) shown_rules s (bytes files.first) (bytes files.second) input.left before after
       → CompleteOf belongs_to shown_rules s (turned_by v w) (bytes files.first) (bytes files.second) status seen seen' input.left input.faults input'.faults
       writes writes'
-      → RespondsSo start files status bytes safe seen seen' input input' before after writes writes'
+      → RespondsSo start files status bytes unfailing seen seen' input input' before after writes writes'
   run_shown status begin ends done only complete =
-      responds_shown start files bytes safe seen seen' input input' before after writes writes' status v w (opens_unseen start v fresh) board.published
+      responds_shown start files bytes unfailing seen seen' input input' before after writes writes' status v w (opens_unseen start v fresh) board.published
       (published_of_watch (bytes files.first) (bytes files.second) v w board left.driven left.refused left.sent left.stands) begin
-      (subst (λ (x : ShownState). drive.EndOf (turned_by v w) shown_rules x files.first files.second seen seen' (opened bytes safe files.first)
-      (opened bytes safe files.second) input input' before after writes writes' status) is ends)
+      (subst (λ (x : ShownState). drive.EndOf (turned_by v w) shown_rules x files.first files.second seen seen' (opened bytes unfailing files.first)
+      (opened bytes unfailing files.second) input input' before after writes writes' status) is ends)
       (subst (λ (x : ShownState). drive.DoneOf (turned_by v w) shown_rules x (bytes files.first) (bytes files.second) status input.left input'.left
       before after) is done)
       (subst (λ (x : ShownState). drive.WritesOf (turned_by v w) shown_rules x (bytes files.first) (bytes files.second) input.left before after) is only)
@@ -48,12 +48,12 @@ module _ {start : SpeakerState} {files : LaneNames} {bytes : List ℕ → Option
       input.faults input'.faults writes writes') is complete)
 
   -- it doesn't, and is more
-  pub run_short : IsPrefix board.published w.sight.seen → RespondsSo start files NoMemory bytes safe seen seen' input input' before after writes writes'
+  pub run_short : IsPrefix board.published w.sight.seen → RespondsSo start files NoMemory bytes unfailing seen seen' input input' before after writes writes'
   run_short begin =
       let l : LeavesMachine (turned_by v w) shown_rules (unshown start) (HasShown board) (bytes files.first) (bytes files.second)
       (to_come drive.unread input.left) before after =
       subst (λ (x : ShownState). LeavesMachine (turned_by v w) shown_rules x (HasShown board) (bytes files.first) (bytes files.second)
       (to_come drive.unread input.left) before after) is left in
-      responds_short start files bytes safe seen seen' input input' before after writes writes'
+      responds_short start files bytes unfailing seen seen' input input' before after writes writes'
       (writes_short start (bytes files.first) (bytes files.second) v w (opens_unseen start v fresh) board begin l.driven l.refused l.sent l.stands
       (to_come drive.unread input.left) before after l.begun l.are)

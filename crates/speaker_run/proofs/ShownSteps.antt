@@ -73,15 +73,15 @@ watched_step s next item entries none e =
 pub record Answered (s next : ShownState) (answered : Received) (entries : List ShownEntry) : Type 0 where
   pub same : next ≡ s
   pub few : seen_in answered.frame ≤ length s.board.published
-  pub are : entries ≡ told_answer answered
+  pub are : entries ≡ told_answer s.speaker answered
 
 answered_at : (few : Bool) (s next : ShownState) (answered : Received) (entries : List ShownEntry)
     → nat_le (seen_in answered.frame) (length s.board.published) ≡ few
-    → (if few then Goes s (told_answer answered) else Stops NoMemory) ≡ Goes next entries → Answered s next answered entries
+    → (if few then Goes s (told_answer s.speaker answered) else Stops NoMemory) ≡ Goes next entries → Answered s next answered entries
 answered_at false s next answered entries is e = absurd (cc)
 answered_at true s next answered entries is e =
     let le : seen_in answered.frame ≤ length s.board.published = grind (arith, nat_tests) in
-    record { same = (let state : s ≡ next = cc in sym state); few = le; are = (let text : told_answer answered ≡ entries = cc in sym text) }
+    record { same = (let state : s ≡ next = cc in sym state); few = le; are = (let text : told_answer s.speaker answered ≡ entries = cc in sym text) }
 
 pub frame_step : (s next : ShownState) (item : Item) (entries : List ShownEntry) (answered : Received) → frame_in item.event ≡ Some answered
     → shown_step s item ≡ Goes next entries → Answered s next answered entries
@@ -89,7 +89,7 @@ frame_step s next item entries answered is e =
     answered_at (nat_le (seen_in answered.frame) (length s.board.published)) s next answered entries refl
     (ap (λ (frame : Option Received). shown_step_at frame s item.event) (sym is) ∙ e)
 
--- ---- what is published behind a step
+-- ---- what is published after a step
 one_published : (published pending : List Event) (event : Event) (events : List Event) → pending ≡ []
     → (published ++ pending ++ event ∷ []) ++ events ≡ published ++ event ∷ events
 one_published published (x ∷ pending) event events none = absurd (cc)

@@ -25,21 +25,22 @@ use Rattle.speaker_machine.specs.Stream.{SpeakerState, Received, IsUnapplied, fr
 use Rattle.speaker_machine.specs.declared.transcript.TranscriptEntry.{TranscriptEntry}
 use Rattle.speaker_run.specs.Responding.{HasShown, ShownEntry, ShownState, Tells, answer_in, answer_step, published_step, seen_in, sent_answer, shown_of}
 use Rattle.speaker_run.specs.Responding.{shown_rules, shown_step_at, shown_text, told_answer, watch_events, with_published}
+use Rattle.speaker_run.specs.Standing.{standing_answer}
 use Rattle.speaker_run.proofs.ShownSteps.{frame_first, watched-append, watched_first}
 
 -- ---- answers
 -- the line that tells of the item, by how many events its frame was answered, and what is sent
-abbrev pub answer_text : Item → Received → List ℕ
-answer_text item r = line_of (took_text (name_of item.lane) item.number)
-    ++ (line_of (seen_text (seen_in r.frame)) ++ flat_map shown_text (sent_answer r.interface (answer_in r.frame)))
+abbrev pub answer_text : SpeakerState → Item → Received → List ℕ
+answer_text s item r = line_of (took_text (name_of item.lane) item.number)
+    ++ (line_of (seen_text (seen_in r.frame)) ++ flat_map shown_text (sent_answer r.interface (standing_answer s (answer_in r.frame))))
 
 module _ (s : ShownState) (item : Item) (r : Received) (is : frame_in item.event ≡ Some r) where
   -- it was answered by no more events than are published
-  answer_goes : seen_in r.frame ≤ length s.board.published → shown_rules.take s item ≡ Goes s (told_answer r)
+  answer_goes : seen_in r.frame ≤ length s.board.published → shown_rules.take s item ≡ Goes s (told_answer s.speaker r)
   answer_goes few =
       let within : nat_le (seen_in r.frame) (length s.board.published) ≡ true = le-leb (seen_in r.frame) (length s.board.published) few in
       ap (λ (o : Option Received). shown_step_at o s item.event) is
-      ∙ ap (λ (b : Bool). if b then Goes s (told_answer r) else Stops statuses.NoMemory) within
+      ∙ ap (λ (b : Bool). if b then Goes s (told_answer s.speaker r) else Stops statuses.NoMemory) within
 
   -- or by more
   pub answer_refused : length s.board.published < seen_in r.frame → (before : Option (List ℕ)) (faults : ℕ)
@@ -47,18 +48,18 @@ module _ (s : ShownState) (item : Item) (r : Received) (is : frame_in item.event
   answer_refused more before faults =
       let beyond : nat_le (seen_in r.frame) (length s.board.published) ≡ false = lt-leb (seen_in r.frame) (length s.board.published) more in (
         ap (λ (o : Option Received). shown_step_at o s item.event) is
-            ∙ ap (λ (b : Bool). if b then Goes s (told_answer r) else Stops statuses.NoMemory) beyond,
+            ∙ ap (λ (b : Bool). if b then Goes s (told_answer s.speaker r) else Stops statuses.NoMemory) beyond,
         Grows-none before,
       )
 
-  pub answer_taken : seen_in r.frame ≤ length s.board.published → (before after : Option (List ℕ)) → Grows before after (answer_text item r)
+  pub answer_taken : seen_in r.frame ≤ length s.board.published → (before after : Option (List ℕ)) → Grows before after (answer_text s.speaker item r)
       → TakesItem shown_rules s s item before after
-  answer_taken few before after wrote = record { entries = told_answer r; steps = answer_goes few; wrote = wrote }
+  answer_taken few before after wrote = record { entries = told_answer s.speaker r; steps = answer_goes few; wrote = wrote }
 
   pub answer_halted : seen_in r.frame ≤ length s.board.published → (halt : Halt) (before after : Option (List ℕ)) (faults faults' : ℕ)
-      → Halts halt (answer_text item r) before after faults faults' → HaltsItem halt shown_rules s item before after faults faults'
-  answer_halted few halts.WriteFault before after faults faults' h = record { next = s; entries = told_answer r; steps = answer_goes few; halts = h }
-  answer_halted few halts.NoMemory before after faults faults' h = inr (record { next = s; entries = told_answer r; steps = answer_goes few; halts = h })
+      → Halts halt (answer_text s.speaker item r) before after faults faults' → HaltsItem halt shown_rules s item before after faults faults'
+  answer_halted few halts.WriteFault before after faults faults' h = record { next = s; entries = told_answer s.speaker r; steps = answer_goes few; halts = h }
+  answer_halted few halts.NoMemory before after faults faults' h = inr (record { next = s; entries = told_answer s.speaker r; steps = answer_goes few; halts = h })
 
 -- ---- watched events
 tells_text : (entries : List TranscriptEntry) → flat_map shown_text (map Tells entries) ≡ text_of speaker_rules entries
@@ -76,7 +77,7 @@ module _ (s : ShownState) (item : Item) (none : frame_in item.event ≡ None) wh
       ap (λ (o : Option Received). shown_step_at o s item.event) none
       ∙ ap (λ (t : Transition SpeakerState TranscriptEntry). published_step s item.event t) is
 
-  -- it isn't applied, or not published for want of memory: nothing is written
+  -- it isn't applied, or not published where memory ran out: nothing is written
   pub watched_refused : (refusal : Refusal) → IsUnapplied refusal s.speaker item.event → (before : Option (List ℕ)) (faults : ℕ)
       → RefusesItem refusal shown_rules s item before before faults faults
   watched_refused (Stopped status) is before faults = (watched_as (Stops status) is, Grows-none before)
@@ -115,7 +116,7 @@ module _ (s : ShownState) (item : Item) (none : frame_in item.event ≡ None) wh
       halts = subst (λ (text : List ℕ). Halts halts.NoMemory text before after faults faults') same_text h;
     })
 
--- ---- what is published behind an item
+-- ---- what is published after an item
 module _ (items : List Item) (item : Item) where
   -- a frame changes nothing
   pub shown_frame : (r : Received) → frame_in item.event ≡ Some r → (board : Boarded Event) → HasShown board items None

@@ -31,7 +31,7 @@ WithoutResponder words so = (files : LaneNames) → plain_lanes_of (texts_of wor
 
 -- a file of these bytes, of which nothing is read yet
 abbrev pub opened : (List ℕ → Option (List ℕ)) → (List ℕ → Bool) → List ℕ → SourceState
-opened bytes safe file = lane_state (bytes file) (Some file) 0 (safe file)
+opened bytes unfailing file = lane_state (bytes file) (Some file) 0 (unfailing file)
 
 -- the next item may be waited for wherever just the text of all items taken before stands written
 abbrev pub LanesMayWait : {Z R K : Type 0} → List (String Z) → (R → List Item → K → Type 0) → R → (input : SourceState) → (K → Option (List ℕ)) → (K → ℕ) → K
@@ -52,10 +52,10 @@ abbrev pub LanesMayOpen : {Z F : Type 0} → List (String Z) → (F → List ℕ
 LanesMayOpen words may_open Opens unopened = OverLanes words (λ files. MayBeOpened may_open Opens unopened files.first files.second)
 
 -- How the run ended, once both files are open; where it is done, all that both carry was taken, and just its text was written; and where each line of
--- both can be applied, in whatever order the events of both come, and no count of faults rises, it is done, but for want of memory.
-pub record OwesLanes (start : SpeakerState) (files : LaneNames) (status : Status) (bytes : List ℕ → Option (List ℕ)) (safe : List ℕ → Bool)
+-- both can be applied, in whatever order the events of both come, and no count of faults rises, it is done, unless memory runs out.
+pub record OwesLanes (start : SpeakerState) (files : LaneNames) (status : Status) (bytes : List ℕ → Option (List ℕ)) (unfailing : List ℕ → Bool)
     (seen seen' : FilesState) (input input' : SourceState) (before after : Option (List ℕ)) (writes writes' : ℕ) : Type 0 where
-  pub ends : drive.AtEnd belongs_to lane_rules start files.first files.second seen seen' (opened bytes safe files.first) (opened bytes safe files.second)
+  pub ends : drive.AtEnd belongs_to lane_rules start files.first files.second seen seen' (opened bytes unfailing files.first) (opened bytes unfailing files.second)
       input input' before after writes writes' status
   pub done : drive.AtDone belongs_to lane_rules start (bytes files.first) (bytes files.second) status input.left input'.left before after
   pub complete : can_be_done.IsComplete belongs_to lane_rules start (bytes files.first) (bytes files.second) status seen seen' input.left
@@ -63,8 +63,8 @@ pub record OwesLanes (start : SpeakerState) (files : LaneNames) (status : Status
 
 abbrev pub LanesOwe : {Z K : Type 0} → List (String Z) → Status → (List ℕ → Option (List ℕ)) → (List ℕ → Bool) → (seen seen' : FilesState)
     (input input' : SourceState) → (K → Option (List ℕ)) → (K → ℕ) → K → K → Type 0
-LanesOwe words status bytes safe seen seen' input input' written faults out out' = WithoutResponder words
-    (λ files. OwesLanes (begun_by words) files status bytes safe seen seen' input input' (written out) (written out') (faults out) (faults out'))
+LanesOwe words status bytes unfailing seen seen' input input' written faults out out' = WithoutResponder words
+    (λ files. OwesLanes (begun_by words) files status bytes unfailing seen seen' input input' (written out) (written out') (faults out) (faults out'))
 
 -- However it ends, a beginning of the text of some items was written, which are of each file a beginning of what it carries; and they are right as
 -- lines of one stream.

@@ -4,3 +4,4 @@ pub mod Responding
 pub mod ResponderClauses
 pub mod ResponderSeen
 pub mod ShownCauses
+pub mod Standing

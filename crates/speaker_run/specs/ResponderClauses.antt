@@ -1,6 +1,6 @@
 -- What the speaker owes where its words name two lane files and ask for a responder: the clauses of a run over lane files, where the frame lane sends
 -- the answers to its frames.
-use Rattle.std.specs.Prelude.{◌≡◌, ◌≤◌, ◌<◌, ◌^◌, ℕ, Bool, List, [], ◌∷◌, ◌++◌, length, map, take, String, Option, Some, None, Ok}
+use Rattle.std.specs.Prelude.{◌≡◌, ◌⊎◌, ◌≤◌, ◌<◌, ◌^◌, ℕ, Bool, List, [], ◌∷◌, ◌++◌, length, map, take, String, Option, Some, None, Ok}
 use Rattle.std.specs.List.{flat_map}
 use Rattle.command_options.specs.Options.{texts_of}
 use Rattle.command_options.specs.Lanes.{LaneNames}
@@ -28,13 +28,15 @@ use Rattle.line_run.specs.Run.{AreTaken}
 use Rattle.mlb_base.specs.Items.{IsIn}
 use Rattle.mlb_edge.specs.declared.lines.Line.{Line}
 use Rattle.speaker_machine.specs.declared.transcript.TranscriptEntry.{TranscriptEntry}
+use Rattle.speaker_machine.specs.declared.transcript.TranscriptEntry.TheVariants.{Sent}
 use Rattle.speaker_machine.specs.Lanes.{belongs_to}
 use Rattle.speaker_machine.specs.Stream.{SpeakerState, Received, frame_in, speaker_rules}
 use Rattle.speaker_laws.specs.Clauses.{begun_by, responder_lanes_of}
 use Rattle.speaker_laws.specs.Right.{IsRightRun}
 use Rattle.speaker_run.specs.LaneClauses.{opened}
-use Rattle.speaker_run.specs.Responding.{AreAnswered, IsAnsweredBy, ShownEntry, Tells, Seen, ShownState, shown_rules, told_answer, unshown, watch_events}
+use Rattle.speaker_run.specs.Responding.{AreAnswered, IsAnsweredBy, ShownEntry, Tells, Seen, ShownState, shown_rules, unshown, watch_events}
 use Rattle.speaker_run.specs.Responding.{answer_octets, seen_in, answer_in, view_after_all}
+use Rattle.speaker_run.specs.Standing.{IsForStanding}
 
 -- so it is of the two files that the words name, where they ask for a responder
 abbrev pub WithResponder : {Z : Type 0} → List (String Z) → (LaneNames → Type 0) → Type 0
@@ -102,10 +104,10 @@ pub record AreApplicable (start : SpeakerState) (first second : Option (List ℕ
 -- How the run ended, once both files are open; where it is done all that both carry was taken, and just its text was written; however it ends a
 -- beginning of the text of some items was written; and where all that is watched can be applied and no count of faults rises it is done, but for want
 -- of memory. The items of the watched lane are its events, and those of the frame lane the answers to its frames.
-pub record RespondsSo (start : SpeakerState) (files : LaneNames) (status : Status) (bytes : List ℕ → Option (List ℕ)) (safe : List ℕ → Bool)
+pub record RespondsSo (start : SpeakerState) (files : LaneNames) (status : Status) (bytes : List ℕ → Option (List ℕ)) (unfailing : List ℕ → Bool)
     (seen seen' : FilesState) (input input' : SourceState) (before after : Option (List ℕ)) (writes writes' : ℕ) : Type 0 where
   pub ends : drive.EndOf (answering start (bytes files.first)) shown_rules (unshown start) files.first files.second seen seen'
-      (opened bytes safe files.first) (opened bytes safe files.second) input input' before after writes writes' status
+      (opened bytes unfailing files.first) (opened bytes unfailing files.second) input input' before after writes writes' status
   pub done : drive.DoneOf (answering start (bytes files.first)) shown_rules (unshown start) (bytes files.first) (bytes files.second) status
       input.left input'.left before after
   pub only : drive.WritesOf (answering start (bytes files.first)) shown_rules (unshown start) (bytes files.first) (bytes files.second)
@@ -114,8 +116,8 @@ pub record RespondsSo (start : SpeakerState) (files : LaneNames) (status : Statu
 
 abbrev pub ResponderOwes : {Z K : Type 0} → List (String Z) → Status → (List ℕ → Option (List ℕ)) → (List ℕ → Bool) → (seen seen' : FilesState)
     (input input' : SourceState) → (K → Option (List ℕ)) → (K → ℕ) → K → K → Type 0
-ResponderOwes words status bytes safe seen seen' input input' written faults out out' = WithResponder words
-    (λ files. RespondsSo (begun_by words) files status bytes safe seen seen' input input' (written out) (written out') (faults out) (faults out'))
+ResponderOwes words status bytes unfailing seen seen' input input' written faults out out' = WithResponder words
+    (λ files. RespondsSo (begun_by words) files status bytes unfailing seen seen' input input' (written out) (written out') (faults out) (faults out'))
 
 -- ---- what is told of the watched objects
 -- the entries but the number of events by which a frame was answered
@@ -152,11 +154,9 @@ abbrev pub AnswersAreTold : Type 0
 AnswersAreTold = (seen : ℕ) (answer : List ℕ) → seen < 2 ^ 64
     → (seen_in (answer_octets seen answer) ≡ seen) × (answer_in (answer_octets seen answer) ≡ answer)
 
--- An item of the frame lane is taken behind these: its number and its answer are told, the events of that number were taken before it, and it is the
--- answer by the view after them to the frame that the lane carries under the item's number.
-pub record AnswersBehind (start : SpeakerState) (second : Option (List ℕ)) (items : List Item) (item : Item) (answered : Received)
-    (entries : List ShownEntry) : Type 0 where
-  pub told : entries ≡ told_answer answered
+-- An item of the frame lane is taken after these: the events of its number were taken before it, and it is the answer by the view after them to the
+-- frame that the lane carries under the item's number.
+pub record AnswersBehind (start : SpeakerState) (second : Option (List ℕ)) (items : List Item) (item : Item) (answered : Received) : Type 0 where
   pub few : seen_in answered.frame ≤ length (watch_events items)
   pub frames : List Item
   pub begins : Begins belongs_to Second second frames
@@ -173,21 +173,42 @@ abbrev pub AnswersWhatIsTaken : SpeakerState → Type 0
 AnswersWhatIsTaken start = (bytes : List ℕ) (second : Option (List ℕ)) (items : List Item) (item : Item) (replies : List Line) (s t : ShownState)
     (told : List (Told ShownEntry)) (answered : Received) (entries : List ShownEntry)
     → (answering start (Some bytes)).Begins (Some bytes) second (items ++ item ∷ []) → AreItemsTaken shown_rules items replies (unshown start) s told
-    → shown_rules.take s item ≡ Goes t entries → frame_in item.event ≡ Some answered → AnswersBehind start second items item answered entries
+    → shown_rules.take s item ≡ Goes t entries → frame_in item.event ≡ Some answered → AnswersBehind start second items item answered
 
--- So it is of each of these items that is a frame's, behind those before it.
+-- So it is of each of these items that is a frame's, after those before it.
 abbrev pub EachAnswers : SpeakerState → (first second : Option (List ℕ)) → List Item → Type 0
 EachAnswers start first second items = (bytes : List ℕ) → first ≡ Some bytes → (earlier later : List Item) (item : Item) → items ≡ earlier ++ item ∷ later
     → (replies : List Line) (s t : ShownState) (told : List (Told ShownEntry)) → AreItemsTaken shown_rules earlier replies (unshown start) s told
     → (answered : Received) (entries : List ShownEntry) → shown_rules.take s item ≡ Goes t entries → frame_in item.event ≡ Some answered
-    → AnswersBehind start second earlier item answered entries
+    → AnswersBehind start second earlier item answered
 
--- However it ends, a beginning of the text of some items was written. The watched ones are right as lines of one stream, just their events are published,
--- and where the watched file tells its bytes each answer is told as one by events that were taken before it.
+-- ---- which answers are sent
+-- The answer is sent exactly where its address has an announce line by what was told, and no later withdraw line.
+abbrev pub SendsStanding : List TranscriptEntry → (interface answer : List ℕ) → List ShownEntry → Type 0
+SendsStanding told interface answer sent =
+    (IsForStanding told answer × (sent ≡ Tells (Sent interface answer) ∷ []))
+    ⊎ (¬ (IsForStanding told answer) × (sent ≡ []))
+
+-- By how many events a frame was answered is told, and then what is sent.
+pub record TellsAnswer (told : List TranscriptEntry) (answered : Received) (entries : List ShownEntry) : Type 0 where
+  pub sent : List ShownEntry
+  pub are : entries ≡ Seen (seen_in answered.frame) ∷ sent
+  pub sends : SendsStanding told answered.interface (answer_in answered.frame) sent
+
+-- So it is of each of these items that is a frame's, by what was told of the watched objects before it.
+abbrev pub EachSends : SpeakerState → List Item → Type 0
+EachSends start items = (earlier later : List Item) (item : Item) → items ≡ earlier ++ item ∷ later
+    → (replies : List Line) (s t : ShownState) (told : List (Told ShownEntry)) → AreItemsTaken shown_rules earlier replies (unshown start) s told
+    → (answered : Received) (entries : List ShownEntry) → shown_rules.take s item ≡ Goes t entries → frame_in item.event ≡ Some answered
+    → TellsAnswer (told_of_watch told) answered entries
+
+-- However it ends, a beginning of the text of some items was written. The watched ones are right as lines of one stream, and just their events are published.
+-- Each answer is sent exactly where its address stands announced, and where the watched file tells its bytes it is one by events that were taken before it.
 pub record RespondsRightly {Z : Type 0} (words : List (String Z)) (first second left before after : Option (List ℕ)) : Type 0 where
   pub written : drive.WritesOf (answering (begun_by words) first) shown_rules (unshown (begun_by words)) first second left before after
   pub as_lines : IsAsLines (begun_by words) written.items written.state written.told
   pub right : IsRightRun words as_lines.lines
+  pub sends : EachSends (begun_by words) written.items
   pub answers : EachAnswers (begun_by words) first second written.items
 
 abbrev pub ResponderWritesRightly : {Z K : Type 0} → List (String Z) → (List ℕ → Option (List ℕ)) → (left : Option (List ℕ)) → (K → Option (List ℕ)) → K → K

@@ -21,6 +21,7 @@ use Rattle.speaker_machine.specs.Transcript.{entry_text}
 use Rattle.speaker_machine.specs.Lanes.{name_of}
 use Rattle.speaker_machine.specs.Stream.{SpeakerState, Received, frame_in, step_by}
 use Rattle.speaker_laws.specs.Meant.{IsAnswer}
+use Rattle.speaker_run.specs.Standing.{standing_answer}
 
 -- ---- what the frame lane sends
 -- by how many events a frame was answered, in eight octets, the most significant first, and the frame that is sent in answer, if there is one
@@ -118,7 +119,7 @@ abbrev pub shown_text : ShownEntry → List ℕ
 shown_text (Tells entry) = entry_text entry
 shown_text (Seen events) = line_of (seen_text events)
 
--- the event is published, behind all that is pending
+-- the event is published, after all that is pending
 abbrev pub with_published : Boarded Event → Event → Boarded Event
 with_published board event = record { published = board.published ++ board.pending ++ event ∷ []; pending = [] }
 
@@ -132,13 +133,13 @@ abbrev pub sent_answer : List ℕ → List ℕ → List ShownEntry
 sent_answer interface [] = []
 sent_answer interface (octet ∷ answer) = Tells (Sent interface (octet ∷ answer)) ∷ []
 
--- a frame was answered: that changes nothing, and it is told by how many events, and then what is sent
-abbrev pub told_answer : Received → List ShownEntry
-told_answer answered = Seen (seen_in answered.frame) ∷ sent_answer answered.interface (answer_in answered.frame)
+-- A frame was answered: that changes nothing. It is told by how many events, and the answer is sent where its address stands announced.
+abbrev pub told_answer : SpeakerState → Received → List ShownEntry
+told_answer s answered = Seen (seen_in answered.frame) ∷ sent_answer answered.interface (standing_answer s (answer_in answered.frame))
 
--- Where it was answered by more events than are published the run ends for want of memory. That doesn't happen: a responder sees no others.
+-- Where it was answered by more events than are published the run ends where memory ran out. That doesn't happen: a responder sees no others.
 abbrev pub answer_step : ShownState → Received → Transition ShownState ShownEntry
-answer_step s answered = if nat_le (seen_in answered.frame) (length s.board.published) then Goes s (told_answer answered) else Stops NoMemory
+answer_step s answered = if nat_le (seen_in answered.frame) (length s.board.published) then Goes s (told_answer s.speaker answered) else Stops NoMemory
 
 abbrev pub shown_step_at : Option Received → ShownState → Event → Transition ShownState ShownEntry
 shown_step_at None s event = published_step s event (step_by s.speaker event)
@@ -165,7 +166,7 @@ shown_rules = record {
 abbrev pub watch_events : List Item → List Event
 watch_events items = filter (λ event. is_none (frame_in event)) (map (λ item. item.event) items)
 
--- Behind these items just their events are published. Where one behind them was refused its event may be so too.
+-- After these items just their events are published. Where one after them was refused its event may be so too.
 abbrev pub HasShown : Boarded Event → List Item → Option Item → Type 0
 HasShown board items None = (board.published ≡ watch_events items) × (board.pending ≡ [])
 HasShown board items (Some item) = (board.published ≡ watch_events items) ⊎ (board.published ≡ watch_events (items ++ item ∷ []))

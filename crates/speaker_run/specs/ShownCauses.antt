@@ -29,7 +29,7 @@ stops_at : (frame : Option Received) (s : ShownState) (item : Item) (status : St
     → IsItemLimit status
 stops_at None s item status e = inl (item_causes s.speaker item status (stops_as s item.event status (step_by s.speaker item.event) e))
 stops_at (Some answered) s item status e =
-    inr (answer_stops (nat_le (seen_in answered.frame) (length s.board.published)) s (told_answer answered) status e)
+    inr (answer_stops (nat_le (seen_in answered.frame) (length s.board.published)) s (told_answer s.speaker answered) status e)
 
 -- with the item that a run stops at more would be held than may be, or memory is wanting
 pub shown_causes : (s : ShownState) (item : Item) (status : Status) → shown_step s item ≡ Stops status → IsItemLimit status

@@ -3,7 +3,8 @@ ghost use Rattle.std.specs.Prelude.{◌≡◌, ℕ, List, IfOk};
 ghost use Rattle.command_options.specs.Lanes.{lane_seen};
 ghost use Rattle.kube_model.specs.declared.status.LaneName.{LaneName};
 ghost use Rattle.lane_drive.specs.Asking.{AnswersAll, HasStopped};
-ghost use Rattle.lane_drive.specs.Clauses.{AtOpenFault, AtReadFault, LeavesInput, LeavesOthers, unread};
+ghost use Rattle.lane_drive.specs.Clauses.{AtOpenFault, AtReadFault, LeavesInput, LeavesOthers};
+ghost use Rattle.lane_drive.specs.Clauses.{unread};
 ghost use Rattle.lane_drive.specs.Files.{files_state};
 ghost use Rattle.lane_run.specs.Opening.{MayBeOpened};
 ghost use Rattle.lane_run.specs.Outside.{outside, source_state};
@@ -32,8 +33,9 @@ use std::alloc::Global;
 use std::thread::Threads;
 use view_board::{BoardWait, Classed, Opened};
 
-/// Runs the speaker over both files. Each event of the first is published before what comes of it is written, and each frame of the second is answered on
-/// the thread of its lane by what is published then.
+/// Runs the speaker over both files. Each event of the first is published before what comes of it
+/// is written, and each frame of the second is answered on the thread of its lane by what is
+/// published then.
 pub(crate) fn run_responder<
     J: Classed + Send + Sync,
     R: Threads + PacedWait<K> + MailWait + BoardWait + Sync,
@@ -52,24 +54,33 @@ pub(crate) fn run_responder<
 ) -> Status
     requires book { opened.seen.book ≡ J.book }
     requires class { (said_seen said.now).class ≡ J.class }
-    requires opens { MayBeOpened F.may_open F.Opens files.old (lane_seen lanes).first (lane_seen lanes).second }
-    requires waits { MayBeAwaited R.may_wait rt.now K.written (AnswersAll shown_rules (unshown (first_state (said_seen said.now)))
-        (outside unread (source_state (S.left input.old) (S.name input.old) (S.faults input.old)) (K.written out.old) (K.faults out.old))) }
-    requires drops { MayBeAwaited R.may_drop rt.now K.written (HasStopped shown_rules (unshown (first_state (said_seen said.now)))
-        (outside unread (source_state (S.left input.old) (S.name input.old) (S.faults input.old)) (K.written out.old) (K.faults out.old))) }
-    ensures responds { RespondsSo (first_state (said_seen said.now)) (lane_seen lanes.entry) result (F.bytes files.old) (F.safe files.old)
+    requires opens { MayBeOpened F.may_open F.Opens files.old (lane_seen lanes).first
+        (lane_seen lanes).second }
+    requires waits { MayBeAwaited R.may_wait rt.now K.written
+        (AnswersAll shown_rules (unshown (first_state (said_seen said.now)))
+        (outside unread (source_state (S.left input.old) (S.name input.old) (S.faults input.old))
+        (K.written out.old) (K.faults out.old))) }
+    requires drops { MayBeAwaited R.may_drop rt.now K.written
+        (HasStopped shown_rules (unshown (first_state (said_seen said.now)))
+        (outside unread (source_state (S.left input.old) (S.name input.old) (S.faults input.old))
+        (K.written out.old) (K.faults out.old))) }
+    ensures responds { RespondsSo (first_state (said_seen said.now)) (lane_seen lanes.entry) result
+        (F.bytes files.old) (F.unfailing files.old)
         (files_state (F.failed_opens files.old) (F.failed_reads files.old))
         (files_state (F.failed_opens files.new) (F.failed_reads files.new))
         (source_state (S.left input.old) (S.name input.old) (S.faults input.old))
         (source_state (S.left input.new) (S.name input.new) (S.faults input.new))
         (K.written out.old) (K.written out.new) (K.faults out.old) (K.faults out.new) }
     ensures can_end { CanEndLanes result }
-    ensures open_fault { AtOpenFault name_of (lane_seen lanes.entry).first (lane_seen lanes.entry).second result
+    ensures open_fault { AtOpenFault name_of (lane_seen lanes.entry).first
+        (lane_seen lanes.entry).second result
         (files_state (F.failed_opens files.old) (F.failed_reads files.old))
         (files_state (F.failed_opens files.new) (F.failed_reads files.new)) }
-    ensures read_fault { AtReadFault name_of (lane_seen lanes.entry).first (lane_seen lanes.entry).second result
+    ensures read_fault { AtReadFault name_of (lane_seen lanes.entry).first
+        (lane_seen lanes.entry).second result
         (files_state (F.failed_opens files.old) (F.failed_reads files.old))
-        (files_state (F.failed_opens files.new) (F.failed_reads files.new)) (S.faults input.old) (S.faults input.new) }
+        (files_state (F.failed_opens files.new) (F.failed_reads files.new)) (S.faults input.old)
+        (S.faults input.new) }
     ensures write_fault { AtWriteFault result (K.faults out.old) (K.faults out.new) }
     ensures unheard { LeavesInput
         (source_state (S.left input.old) (S.name input.old) (S.faults input.old))
@@ -77,7 +88,8 @@ pub(crate) fn run_responder<
     ensures others { LeavesOthers (lane_seen lanes.entry).first (lane_seen lanes.entry).second
         (files_state (F.failed_opens files.old) (F.failed_reads files.old))
         (files_state (F.failed_opens files.new) (F.failed_reads files.new)) }
-    ensures unopened { (lane : LaneName) → result ≡ Status.OpenFault lane → (input.new ≡ input.old) × (out.new ≡ out.old) }
+    ensures unopened { (lane : LaneName) → result ≡ Status.OpenFault lane → (input.new ≡ input.old)
+        × (out.new ≡ out.old) }
     ensures bytes { (file : List ℕ) → F.bytes files.new file ≡ F.bytes files.old file }
 {
     let Ok(begun) = begin::<J, R>(rt, alloc, opened, said) else {
@@ -123,7 +135,8 @@ fn begin<'a, J: Classed, R: BoardWait>(
 ) -> Result<(ShownSpeaker<'a, J, R>, FrameAnswerer<J>), NoMemory>
     requires book { opened.seen.book ≡ J.book }
     requires class { (said_seen said.now).class ≡ J.class }
-    ensures shown { IfOk result (λ begun. shown_of begun.0.speaker begun.0.writer ≡ unshown (first_state (said_seen said.now))) }
+    ensures shown { IfOk result (λ begun. shown_of begun.0.speaker begun.0.writer
+        ≡ unshown (first_state (said_seen said.now))) }
     ensures unseen { IfOk result (λ begun. begun.1 ≡ unseen (first_state (said_seen said.now))) }
 {
     let class = owned_word(alloc, said.class)?;

@@ -1,5 +1,6 @@
 //! Who answers received frames, on the thread of their lane.
-ghost use Rattle.std.specs.Prelude.{◌≡◌, ◌+◌, ◌^◌, ◌<◌, ◌≤◌, ◌++◌, length, vec_len, vec_capacity, IfOk, IfSome, IfNone, OnErr};
+ghost use Rattle.std.specs.Prelude.{◌≡◌, ◌+◌, ◌^◌, ◌<◌, ◌≤◌, ◌++◌, length, vec_len, vec_capacity};
+ghost use Rattle.std.specs.Prelude.{IfOk, IfSome, IfNone, OnErr};
 ghost use Rattle.std.specs.Int.{w64, to_be_bytes};
 ghost use mathlib.Core.List.{IsPrefix};
 ghost use Rattle.speaker_view.specs.View.{fresh};
@@ -52,7 +53,8 @@ impl<J: Classed> Turner for FrameAnswerer<J> {
 }
 
 impl<J: Classed> FrameAnswerer<J> {
-    /// The item's event for a frame that the interface received: by how many events it is answered, and the answer.
+    /// The item's event for a frame that the interface received: by how many events it is answered,
+    /// and the answer.
     fn answered(
         &mut self,
         alloc: Global,
@@ -86,17 +88,22 @@ impl<J: Classed> FrameAnswerer<J> {
     /// The answer, which is none where the interface isn't one of the words.
     fn reply(&mut self, interface: &Text, frame: &[u8]) -> Option<Reply>
         ensures none { IfNone result (self.new ≡ self.old) }
-        ensures same { (self.new.local ≡ self.old.local) × (self.new.opening ≡ self.old.opening) × (self.new.sight.told ≡ self.old.sight.told) }
-        ensures later { IfSome result (λ _. IsPrefix self.old.sight.seen self.new.sight.seen × IsPrefix self.old.sight.told self.new.sight.seen) }
+        ensures same { (self.new.local ≡ self.old.local) × (self.new.opening ≡ self.old.opening)
+            × (self.new.sight.told ≡ self.old.sight.told) }
+        ensures later { IfSome result (λ _. IsPrefix self.old.sight.seen self.new.sight.seen
+            × IsPrefix self.old.sight.told self.new.sight.seen) }
         ensures seen { IfSome result (λ reply. reply.seen ≡ length self.new.sight.seen) }
-        ensures answer { IfSome result (λ reply. IsAnsweredBy (view_after_all self.old.opening self.new.sight.seen) self.old.local
+        ensures answer { IfSome result
+            (λ reply. IsAnsweredBy (view_after_all self.old.opening self.new.sight.seen)
+            self.old.local
             (record { interface = interface.now; frame = frame.now }) (octets_of reply.answer)) }
     {
         reply_by(&self.local, &mut self.responder, interface, frame)
     }
 }
 
-/// The answer to a frame that came by the interface, by what is seen then: none where it isn't one of the words.
+/// The answer to a frame that came by the interface, by what is seen then: none where it isn't one
+/// of the words.
 fn reply_by<J: Classed>(
     local: &LocalNode,
     responder: &mut Responder<J>,
@@ -105,9 +112,11 @@ fn reply_by<J: Classed>(
 ) -> Option<Reply>
     ensures none { IfNone result (responder.new ≡ responder.old) }
     ensures told { responder.new.told ≡ responder.old.told }
-    ensures later { IfSome result (λ _. IsPrefix responder.old.seen responder.new.seen × IsPrefix responder.old.told responder.new.seen) }
+    ensures later { IfSome result (λ _. IsPrefix responder.old.seen responder.new.seen
+        × IsPrefix responder.old.told responder.new.seen) }
     ensures seen { IfSome result (λ reply. reply.seen ≡ length responder.new.seen) }
-    ensures answer { IfSome result (λ reply. IsAnsweredBy (view_after_all (fresh J.class) responder.new.seen) local.now
+    ensures answer { IfSome result
+        (λ reply. IsAnsweredBy (view_after_all (fresh J.class) responder.new.seen) local.now
         (record { interface = interface.now; frame = frame.now }) (octets_of reply.answer)) }
 {
     let Some(interface) = local.interface(interface) else {
@@ -121,8 +130,10 @@ fn reply_by<J: Classed>(
 fn silence<J: Classed>(local: &LocalNode, responder: &mut Responder<J>) -> Option<Reply>
     ensures none { IfNone result (responder.new ≡ responder.old) }
     ensures told { responder.new.told ≡ responder.old.told }
-    ensures later { IfSome result (λ _. IsPrefix responder.old.seen responder.new.seen × IsPrefix responder.old.told responder.new.seen) }
-    ensures seen { IfSome result (λ reply. (reply.seen ≡ length responder.new.seen) × (reply.answer ≡ Answer.Silent)) }
+    ensures later { IfSome result (λ _. IsPrefix responder.old.seen responder.new.seen
+        × IsPrefix responder.old.told responder.new.seen) }
+    ensures seen { IfSome result (λ reply. (reply.seen ≡ length responder.new.seen)
+        × (reply.answer ≡ Answer.Silent)) }
 {
     // An empty frame has no answer.
     let reply = responder.respond(local.node.as_str(), "", &[0; 6], &[])?;
@@ -140,7 +151,7 @@ fn octets_of_number(number: u64) -> [u8; 8]
     number.to_be_bytes()
 }
 
-/// Puts the octets of the answer behind those that are there, where there is room for the longest.
+/// Puts the octets of the answer after those that are there, where there is room for the longest.
 fn fill_answer(octets: &mut Vec<u8>, answer: &Answer)
     requires { vec_len octets.old + 86 ≤ vec_capacity octets.old }
     ensures { octets.new.items ≡ octets.old.items ++ octets_of answer.now }
@@ -152,7 +163,7 @@ fn fill_answer(octets: &mut Vec<u8>, answer: &Answer)
     }
 }
 
-/// Puts the octets behind those that are there, where there is room for them.
+/// Puts the octets after those that are there, where there is room for them.
 fn fill(octets: &mut Vec<u8>, more: &[u8])
     requires { vec_len octets.old + length more.now ≤ vec_capacity octets.old }
     ensures items { octets.new.items ≡ octets.old.items ++ more.now }

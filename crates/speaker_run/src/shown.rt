@@ -1,5 +1,6 @@
-//! The speaker whose responder answers the frames, as a machine over the items of two lanes: the watched objects, and the answers.
-ghost use Rattle.std.specs.Prelude.{◌≡◌, ◌⊎◌, ◌≤◌, ◌++◌, None, OnOk, IfOk, OnErr, IfErr};
+//! The speaker whose responder answers the frames, as a machine over the items of two lanes: the
+//! watched objects, and the answers.
+ghost use Rattle.std.specs.Prelude.{◌≡◌, ◌⊎◌, ◌≤◌, ◌++◌, [], None, OnOk, IfOk, OnErr, IfErr};
 ghost use Rattle.std.specs.List.{flat_map};
 ghost use Rattle.kube_lines.specs.OutputLines.{seen_text, took_text};
 ghost use Rattle.kube_model.specs.declared.event.Event.TheVariants.{Frame};
@@ -10,8 +11,10 @@ ghost use Rattle.line_run.specs.Text.{Halts, line_of};
 ghost use Rattle.mlb_edge.specs.Written.{Grows};
 ghost use Rattle.speaker_machine.specs.Lanes.{name_of};
 ghost use Rattle.speaker_machine.specs.Stream.{IsUnapplied, frame_in, step_by};
-ghost use Rattle.speaker_run.specs.Responding.{sent_answer, shown_of, shown_rules, shown_text, with_published};
+ghost use Rattle.speaker_run.specs.Responding.{sent_answer, shown_of, shown_rules, shown_text};
+ghost use Rattle.speaker_run.specs.Responding.{with_published};
 
+use crate::standing::standing_answer;
 use kube_labels::Text;
 use kube_lines::seen_line;
 use kube_model::{Event, LaneName, Status};
@@ -26,7 +29,8 @@ use speaker_machine::{Speaker, TranscriptEntry, apply_event, name_of, write_item
 use std::alloc::Global;
 use view_board::{BoardWait, BoardWriter, Classed};
 
-/// Applies the watched events, and publishes each before what comes of it is written. It is not `Drop`: its board is to be ended.
+/// Applies the watched events, and publishes each before what comes of it is written. It is not
+/// `Drop`: its board is to be ended.
 pub(crate) struct ShownSpeaker<'a, J: Classed, R: BoardWait> {
     pub(crate) speaker: Speaker,
     pub(crate) writer: BoardWriter<J>,
@@ -46,7 +50,8 @@ impl<J: Classed, R: BoardWait> Lanes for ShownSpeaker<'_, J, R> {
 impl<J: Classed, R: BoardWait> LaneMachine for ShownSpeaker<'_, J, R> {
     ghost use Rattle.std.specs.Prelude.{refl};
     ghost use Rattle.speaker_machine.specs.Causes.{names_taken, names_differ};
-    ghost use Rattle.speaker_run.specs.Responding.{HasShown, ShownEntry, ShownState, shown_of, shown_rules};
+    ghost use Rattle.speaker_run.specs.Responding.{HasShown, ShownEntry, ShownState, shown_of};
+    ghost use Rattle.speaker_run.specs.Responding.{shown_rules};
     ghost use Rattle.speaker_run.specs.ShownCauses.{shown_causes, shown_awaits_none};
 
     ghost State = { ShownState };
@@ -125,7 +130,8 @@ impl<J: Classed, R: BoardWait> LaneMachine for ShownSpeaker<'_, J, R> {
 }
 
 impl<J: Classed, R: BoardWait> ShownSpeaker<'_, J, R> {
-    /// Tells that the item was taken, and by how many events its frame was answered, and has the answer sent by the interface, if there is one. It is
+    /// Tells that the item was taken, and by how many events its frame was answered, and has the
+    /// answer sent by the interface, if there is one and its address stands announced. It is
     /// refused where these are more events than are published.
     fn take_answer<K: Sink>(
         &self,
@@ -136,10 +142,14 @@ impl<J: Classed, R: BoardWait> ShownSpeaker<'_, J, R> {
         octets: &[u8],
         out: &mut K,
     ) -> Result<(), Refusal>
-        ensures ok { OnOk result (TakesItem shown_rules (shown_of self.now.speaker self.now.writer) (shown_of self.now.speaker self.now.writer)
-            (item_of lane number (Frame interface.now octets.now)) (K.written out.old) (K.written out.new)) }
-        ensures err { IfErr result (λ refusal. RefusesItem refusal shown_rules (shown_of self.now.speaker self.now.writer)
-            (item_of lane number (Frame interface.now octets.now)) (K.written out.old) (K.written out.new) (K.faults out.old) (K.faults out.new)) }
+        ensures ok { OnOk result (TakesItem shown_rules (shown_of self.now.speaker self.now.writer)
+            (shown_of self.now.speaker self.now.writer)
+            (item_of lane number (Frame interface.now octets.now)) (K.written out.old)
+            (K.written out.new)) }
+        ensures err { IfErr result (λ refusal. RefusesItem refusal shown_rules
+            (shown_of self.now.speaker self.now.writer)
+            (item_of lane number (Frame interface.now octets.now)) (K.written out.old)
+            (K.written out.new) (K.faults out.old) (K.faults out.new)) }
         ensures later { K.faults out.old ≤ K.faults out.new }
     {
         // The responder's items are never shorter.
@@ -155,10 +165,14 @@ impl<J: Classed, R: BoardWait> ShownSpeaker<'_, J, R> {
                 status: Status::NoMemory,
             });
         }
+        let answer = standing_answer(&self.speaker, answer);
         Ok(write_answered(alloc, out, lane, number, interface, seen, answer)?)
     }
 
-    /// Applies the event to the speaker's own view and publishes it, and then writes the line that tells of the item, and what comes of it.
+    /// Applies the event to the speaker's own view and publishes it, and then writes the line that
+    /// tells of the item, and what comes of it. Publishing may fail, so nothing can have been
+    /// written before: wherever it stops, nothing was written of the item, or its event is
+    /// published.
     fn take_watched<K: Sink>(
         &mut self,
         alloc: Global,
@@ -168,12 +182,16 @@ impl<J: Classed, R: BoardWait> ShownSpeaker<'_, J, R> {
         out: &mut K,
     ) -> Result<(), Refusal>
         requires { frame_in event ≡ None }
-        ensures ok { OnOk result (TakesItem shown_rules (shown_of self.old.speaker self.old.writer) (shown_of self.new.speaker self.new.writer)
+        ensures ok { OnOk result (TakesItem shown_rules (shown_of self.old.speaker self.old.writer)
+            (shown_of self.new.speaker self.new.writer)
             (item_of lane number event) (K.written out.old) (K.written out.new)) }
-        ensures err { IfErr result (λ refusal. RefusesItem refusal shown_rules (shown_of self.old.speaker self.old.writer) (item_of lane number event)
+        ensures err { IfErr result (λ refusal. RefusesItem refusal shown_rules
+            (shown_of self.old.speaker self.old.writer) (item_of lane number event)
             (K.written out.old) (K.written out.new) (K.faults out.old) (K.faults out.new)) }
         ensures published { OnOk result (self.new.writer ≡ with_published self.old.writer event) }
         ensures shows { OnErr result ((self.new.writer.published ≡ self.old.writer.published)
+            ⊎ (self.new.writer ≡ with_published self.old.writer event)) }
+        ensures ahead { OnErr result (Grows (K.written out.old) (K.written out.new) []
             ⊎ (self.new.writer ≡ with_published self.old.writer event)) }
         ensures later { K.faults out.old ≤ K.faults out.new }
     {
@@ -185,7 +203,8 @@ impl<J: Classed, R: BoardWait> ShownSpeaker<'_, J, R> {
 
     /// Applies the event and publishes it. What is to be told of it.
     fn show(&mut self, alloc: Global, event: Event) -> Result<Sequence<TranscriptEntry>, Refusal>
-        ensures ok { IfOk result (λ entries. step_by self.old.speaker event ≡ Goes self.new.speaker entries) }
+        ensures ok { IfOk result (λ entries. step_by self.old.speaker event
+            ≡ Goes self.new.speaker entries) }
         ensures published { OnOk result (self.new.writer ≡ with_published self.old.writer event) }
         ensures err { IfErr result (λ refusal. IsUnapplied refusal self.old.speaker event) }
         ensures unpublished { OnErr result (self.new.writer.published ≡ self.old.writer.published) }
@@ -239,7 +258,9 @@ fn write_answered<K: Sink>(
     answer: &[u8],
 ) -> Result<(), Halt>
     ensures ok { OnOk result (Grows (K.written out.old) (K.written out.new)
-        (line_of (took_text (name_of lane) number) ++ (line_of (seen_text seen) ++ flat_map shown_text (sent_answer interface.now answer.now)))) }
+        (line_of (took_text (name_of lane) number)
+        ++ (line_of (seen_text seen) ++ flat_map shown_text
+        (sent_answer interface.now answer.now)))) }
     ensures err { IfErr result (λ halt. Halts halt
         (line_of (took_text (name_of lane) number) ++ (line_of (seen_text seen) ++ flat_map shown_text (sent_answer interface.now answer.now)))
         (K.written out.old) (K.written out.new) (K.faults out.old) (K.faults out.new)) }
@@ -262,7 +283,8 @@ fn write_answer<K: Sink>(
 ) -> Result<(), Halt>
     ensures ok { OnOk result (Grows (K.written out.old) (K.written out.new)
         (line_of (seen_text seen) ++ flat_map shown_text (sent_answer interface.now answer.now))) }
-    ensures err { IfErr result (λ halt. Halts halt (line_of (seen_text seen) ++ flat_map shown_text (sent_answer interface.now answer.now))
+    ensures err { IfErr result (λ halt. Halts halt
+        (line_of (seen_text seen) ++ flat_map shown_text (sent_answer interface.now answer.now))
         (K.written out.old) (K.written out.new) (K.faults out.old) (K.faults out.new)) }
     ensures later { K.faults out.old ≤ K.faults out.new }
 {
@@ -279,8 +301,10 @@ fn send_answer<K: Sink>(
     interface: &Text,
     answer: &[u8],
 ) -> Result<(), Halt>
-    ensures ok { OnOk result (Grows (K.written out.old) (K.written out.new) (flat_map shown_text (sent_answer interface.now answer.now))) }
-    ensures err { IfErr result (λ halt. Halts halt (flat_map shown_text (sent_answer interface.now answer.now))
+    ensures ok { OnOk result (Grows (K.written out.old) (K.written out.new)
+        (flat_map shown_text (sent_answer interface.now answer.now))) }
+    ensures err { IfErr result (λ halt. Halts halt
+        (flat_map shown_text (sent_answer interface.now answer.now))
         (K.written out.old) (K.written out.new) (K.faults out.old) (K.faults out.new)) }
     ensures later { K.faults out.old ≤ K.faults out.new }
 {
@@ -292,7 +316,8 @@ fn send_answer<K: Sink>(
 
 /// Tells by how many events a frame was answered.
 fn write_seen<K: Sink>(alloc: Global, out: &mut K, events: u64) -> Result<(), Halt>
-    ensures ok { OnOk result (Grows (K.written out.old) (K.written out.new) (line_of (seen_text events))) }
+    ensures ok { OnOk result (Grows (K.written out.old) (K.written out.new)
+        (line_of (seen_text events))) }
     ensures err { IfErr result (λ halt. Halts halt (line_of (seen_text events))
         (K.written out.old) (K.written out.new) (K.faults out.old) (K.faults out.new)) }
     ensures later { K.faults out.old ≤ K.faults out.new }

@@ -15,11 +15,12 @@ use speaker_machine::Speaker;
 use speaker_words::speaker_words;
 use std::alloc::Global;
 
-/// The work of the program on one stream, where the words name no lane files: each line of the input is an event. What comes of it
-/// is written before the source is asked for more, which may be one that gives the next line only once it has seen what came of
-/// those before: the note of a configuration, a withdraw line for each address that isn't announced any more, an announce line for
-/// each that is from now on, with the unsolicited frames that are sent, the update lines of each BGP peer, and the frame that is sent
-/// in answer to one that was received.
+/// The work of the program on one stream, where the words name no lane files: each line of the
+/// input is an event. What comes of it is written before the source is asked for more, which may be
+/// one that gives the next line only once it has seen what came of those before: the note of a
+/// configuration, a withdraw line for each address that isn't announced any more, an announce line
+/// for each that is from now on, with the unsolicited frames that are sent, the update lines of
+/// each BGP peer, and the frame that is sent in answer to one that was received.
 pub fn stream_speaker<S: PacedSource<K>, K: Sink>(
     alloc: Global,
     words: &[String],
@@ -37,11 +38,14 @@ pub fn stream_speaker<S: PacedSource<K>, K: Sink>(
     ensures read_fault { AtReadFault result (S.faults input.old) (S.faults input.new) }
     ensures write_fault { AtWriteFault result (K.faults out.old) (K.faults out.new) }
 
-    // What was read and written, whatever the status, where the words are of the table and all comes by one stream.
-    ensures run { InStream words.now (AreKnown (texts_of words.now) → RunOwes speaker_rules IsCause (begun_by words.now) result
+    // What was read and written, whatever the status, where the words are of the table and all
+    // comes by one stream.
+    ensures run { InStream words.now
+        (AreKnown (texts_of words.now) → RunOwes speaker_rules IsCause (begun_by words.now) result
         (S.left input.old) (S.left input.new) (K.written out.old) (K.written out.new)) }
 
-    // A beginning of the text of the input's lines was written, or of some where the source doesn't tell its bytes, and their run is right.
+    // A beginning of the text of the input's lines was written, or of some where the source doesn't
+    // tell its bytes, and their run is right.
     ensures only { InStream words.now (AreKnown (texts_of words.now) → WritesRightly words.now
         (S.left input.old) (K.written out.old) (K.written out.new)) }
 {

@@ -5,6 +5,8 @@ use Rattle.std.proofs.lemmas.Slice.Eq.{bytes_eq-Decides}
 use Rattle.std.specs.List.{list_any}
 use Rattle.std.specs.Str.{bytes_eq}
 use Rattle.mlb_base.proofs.Among.{any-found, any-contains}
+use Rattle.ip_ranges.specs.Values.{AddressValue, has_address}
+use Rattle.ip_ranges.proofs.AddressLaws.{has_address-is, has_address-from}
 use Rattle.kube_labels.specs.Pairs.{value_of}
 use Rattle.kube_model.specs.declared.service.Policy.{Policy}
 use Rattle.kube_model.specs.declared.service.Policy.TheVariants.{Cluster, Local}
@@ -15,7 +17,8 @@ use Rattle.kube_model.specs.Service.{is_handled, same_class}
 use Rattle.speaker_view.specs.Held.{objects_of}
 use Rattle.speaker_view.specs.ViewValue.{ViewValue}
 use Rattle.speaker_view.specs.Endpoints.{ServesFrom, HasEndpoint, CanAnnounce, reaches, serves_from, is_slice_of, slice_serves}
-use Rattle.speaker_view.specs.Endpoints.{endpoint_for, node_labels, exclude_label, allows_balancers, can_announce}
+use Rattle.speaker_view.specs.Endpoints.{endpoint_for, node_labels, exclude_label, allows_balancers, can_announce, announced_from}
+use Rattle.speaker_view.specs.Advertised.{IsAnnouncedFrom}
 
 reaches-Decides : (policy : Policy) (node : List ℕ) (at : Option (List ℕ)) → Decides (reaches policy node at) (policy ≡ Local → at ≡ Some node)
 reaches-Decides Cluster node at = (λ e local. absurd (cc), λ h. refl)
@@ -103,3 +106,26 @@ module _ (v : ViewValue) (service : Service) (node : List ℕ) where
   -- what a call answers by the test
   pub announce-means : (answer : Bool) → answer ≡ can_announce v service node → (answer ≡ true) ↔ CanAnnounce v service node
   announce-means answer is = (λ e. announced (sym is ∙ e), λ a. is ∙ can-announced a)
+
+-- an address is announced from a node where the test says so
+module _ (v : ViewValue) (address : AddressValue) (node : List ℕ) where
+  abbrev announces : Service → Bool
+  announces service = has_address service.holding.addresses address && can_announce v service node
+
+  pub announced_from-Decides : Decides (announced_from v address node) (IsAnnouncedFrom v address node)
+  announced_from-Decides = (
+    λ e.
+        let found = any-found announces (objects_of v.held.services) e in
+        let service : Service = found.0 in
+        let both = and_parts (has_address service.holding.addresses address) (can_announce v service node) found.2 in
+        record {
+          service = service;
+          held = found.1;
+          recorded = has_address-is service.holding.addresses address both.0;
+          announces = (can_announce-Decides v service node).0 both.1;
+        },
+    λ h.
+        any-contains announces (objects_of v.held.services) h.service h.held
+        (and_from (has_address h.service.holding.addresses address) (can_announce v h.service node)
+        (has_address-from h.service.holding.addresses address h.recorded) ((can_announce-Decides v h.service node).1 h.announces)),
+  )

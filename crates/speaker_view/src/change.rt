@@ -5,7 +5,8 @@ ghost use Rattle.kube_model.specs.Keys.{key_cmp};
 ghost use Rattle.pool_config.specs.KeySets.{keys_with};
 ghost use Rattle.versioned_map.specs.Objects.{is_newer};
 ghost use Rattle.speaker_view.specs.Addresses.{address_cmp};
-ghost use Rattle.speaker_view.specs.Change.{changed_addresses, deleted_addresses, is_accepted, is_unlisted};
+ghost use Rattle.speaker_view.specs.Change.{changed_addresses, deleted_addresses, is_accepted};
+ghost use Rattle.speaker_view.specs.Change.{is_unlisted};
 ghost use Rattle.speaker_view.specs.Change.{recorded_at, served_at, served_by, shown_addresses, unlisted_addresses};
 
 use crate::index::service_of;
@@ -57,7 +58,8 @@ pub(crate) fn listed_addresses(
     view: &View,
     event: &Event,
 ) -> Result<AddressList, NoMemory>
-    ensures { IfOk result (λ found. found ≡ keys_with address_cmp [] (changed_addresses view.now event.now)) }
+    ensures { IfOk result (λ found. found
+        ≡ keys_with address_cmp [] (changed_addresses view.now event.now)) }
 {
     let found = changed_addresses(alloc, view, event)?;
     let distinct = distinct(alloc, found.as_slice())?;
@@ -86,7 +88,8 @@ fn distinct(alloc: Global, addresses: &[Address]) -> Result<BTreeSet<Address>, N
     Ok(distinct)
 }
 
-/// The addresses at which the event may change what is announced, where it is applied and doesn't change all.
+/// The addresses at which the event may change what is announced, where it is applied and doesn't
+/// change all.
 pub(crate) fn changed_addresses(
     alloc: Global,
     view: &View,
@@ -132,7 +135,8 @@ fn shown_service(
     version: u64,
     service: &Service,
 ) -> Result<Vec<Address>, NoMemory>
-    ensures { IfOk result (λ found. found.items ≡ (if is_newer key_cmp view.now.held.services service.now.key version
+    ensures { IfOk result (λ found. found.items
+        ≡ (if is_newer key_cmp view.now.held.services service.now.key version
         then recorded_at view.now service.now.key ++ service.now.holding.addresses else [])) }
 {
     if version <= view.services().version_of(&service.key) {
@@ -150,7 +154,8 @@ fn shown_slice(
     version: u64,
     slice: &EndpointSlice,
 ) -> Result<Vec<Address>, NoMemory>
-    ensures { IfOk result (λ found. found.items ≡ (if is_newer key_cmp view.now.held.slices slice.now.key version
+    ensures { IfOk result (λ found. found.items
+        ≡ (if is_newer key_cmp view.now.held.slices slice.now.key version
         then served_at view.now slice.now.key ++ served_by view.now (Some slice.now) else [])) }
 {
     if version <= view.slices().version_of(&slice.key) {
@@ -199,7 +204,8 @@ fn unlisted_addresses(
 
 fn unlisted_services(alloc: Global, view: &View) -> Result<Vec<Address>, NoMemory>
     ensures { IfOk result (λ found. found.items
-        ≡ flat_map (λ e. e.1.object.holding.addresses) (filter is_unlisted view.now.held.services)) }
+        ≡ flat_map (λ e. e.1.object.holding.addresses)
+        (filter is_unlisted view.now.held.services)) }
 {
     let mut found = Vec::new(alloc);
     for (_key, held) in view.services().iter() {
@@ -212,7 +218,8 @@ fn unlisted_services(alloc: Global, view: &View) -> Result<Vec<Address>, NoMemor
 
 fn unlisted_slices(alloc: Global, view: &View) -> Result<Vec<Address>, NoMemory>
     ensures { IfOk result (λ found. found.items
-        ≡ flat_map (λ e. served_by view.now (Some e.1.object)) (filter is_unlisted view.now.held.slices)) }
+        ≡ flat_map (λ e. served_by view.now (Some e.1.object))
+        (filter is_unlisted view.now.held.slices)) }
 {
     let mut found = Vec::new(alloc);
     for (_key, held) in view.slices().iter() {
@@ -247,7 +254,8 @@ fn served_at(alloc: Global, view: &View, key: &Key) -> Result<Vec<Address>, NoMe
 
 /// Adds those of the service that the slice is of, which is held under its own key.
 fn push_served(found: &mut Vec<Address>, view: &View, slice: &EndpointSlice) -> Result<(), NoMemory>
-    ensures { OnOk result (found.new.items ≡ found.old.items ++ served_by view.now (Some slice.now)) }
+    ensures { OnOk result (found.new.items
+        ≡ found.old.items ++ served_by view.now (Some slice.now)) }
 {
     let key = service_of(slice)?;
     if let Some(service) = view.service(&key) {

@@ -46,7 +46,8 @@ pub(crate) fn is_ready(slice: &EndpointSlice) -> bool
         .any(|endpoint| endpoint.usable)
 }
 
-/// Whether the slice is one of the service's: of its namespace, and with its name in the label `kubernetes.io/service-name`.
+/// Whether the slice is one of the service's: of its namespace, and with its name in the label
+/// `kubernetes.io/service-name`.
 pub(crate) fn is_slice_of(key: &Key, slice: &EndpointSlice) -> bool
     ensures { result ≡ is_slice_of key.now slice.now }
 {

@@ -1,4 +1,5 @@
-//! Which held services record an address, and which held endpoint slices are of a service, by their keys.
+//! Which held services record an address, and which held endpoint slices are of a service, by their
+//! keys.
 ghost use Rattle.std.specs.Prelude.{◌≡◌, ◌&&◌, ◌||◌, ◌⊎◌, not, true, false, Some, OnOk, IfOk};
 ghost use Rattle.std.specs.Option.{option_copied};
 ghost use Rattle.std.specs.List.{list_any};
@@ -13,7 +14,8 @@ ghost use Rattle.grouped_keys.specs.Grouped.{is_in};
 ghost use Rattle.speaker_view.specs.Endpoints.{is_slice_of, slice_serves, some_serves};
 ghost use Rattle.speaker_view.specs.Grouped.{service_of};
 ghost use Rattle.speaker_view.specs.Held.{objects_of};
-ghost use Rattle.speaker_view.specs.Index.{Covers, Grows, HasObject, HasService, HasShown, HasSlice, IsUnderAll, ServesAll};
+ghost use Rattle.speaker_view.specs.Index.{Covers, Grows, HasObject, HasService, HasShown};
+ghost use Rattle.speaker_view.specs.Index.{HasSlice, IsUnderAll, ServesAll};
 ghost use Rattle.speaker_view.specs.Index.{is_ready, is_ready_of, is_recorder, is_server, is_slice, passes, records_in};
 
 use crate::endpoints::{is_ready, is_slice_of, slice_serves};
@@ -27,8 +29,9 @@ use std::alloc::Global;
 use std::collections::BTreeSet;
 use std::collections::btree_map::Keys;
 
-/// Which held services record an address, which of these have a usable endpoint, and which held endpoint slices of a service have one, by their
-/// keys. Keys of others may stand there too: what is found by one is looked at before it counts.
+/// Which held services record an address, which of these have a usable endpoint, and which held
+/// endpoint slices of a service have one, by their keys. Keys of others may stand there too: what
+/// is found by one is looked at before it counts.
 #[derive(Drop)]
 pub(crate) struct Index {
     services_by_address: GroupedKeys<Address, Key>,
@@ -72,7 +75,8 @@ impl Index {
 
     /// The keys that stand under the address, as those of services with a usable endpoint.
     pub(crate) fn servers_by_address(&self, address: &Address) -> Option<&BTreeSet<Key>>
-        ensures { (key : KeyValue) → is_in key_cmp (option_copied result) key ≡ is_server self.now address.now key }
+        ensures { (key : KeyValue) → is_in key_cmp (option_copied result) key
+            ≡ is_server self.now address.now key }
     {
         self.servers_by_address.keys(address)
     }
@@ -84,7 +88,8 @@ impl Index {
         self.services_by_address.groups()
     }
 
-    /// Whether some slice of the service has an endpoint that serves the node. It looks at the slices of the service with a usable endpoint alone.
+    /// Whether some slice of the service has an endpoint that serves the node. It looks at the
+    /// slices of the service with a usable endpoint alone.
     pub(crate) fn serves(&self, cache: &ObjectCache, key: &Key, policy: Policy, node: &Text) -> bool
         requires { Covers self.now cache.now }
         ensures { result ≡ some_serves (objects_of cache.now.slices) key.now policy node.now }
@@ -152,7 +157,8 @@ impl Index {
         }
     }
 
-    /// The service's key comes under each address that it records, as one of a service with a usable endpoint too if a slice stands under it.
+    /// The service's key comes under each address that it records, as one of a service with a
+    /// usable endpoint too if a slice stands under it.
     fn add_service(&mut self, cache: &ObjectCache, service: &Service) -> Result<(), NoMemory>
         requires { Covers self.old cache.now }
         ensures grows { Grows self.old self.new }
@@ -206,10 +212,13 @@ impl Index {
         self.servers_by_address.insert(*address, key)
     }
 
-    /// The held service of the key comes under each address that it records, as one with a usable endpoint.
+    /// The held service of the key comes under each address that it records, as one with a usable
+    /// endpoint.
     fn add_served(&mut self, cache: &ObjectCache, key: &Key) -> Result<(), NoMemory>
         ensures grows { Grows self.old self.new }
-        ensures has { OnOk result ((service : ServiceValue) → object_at key_cmp cache.now.services key.now ≡ Some service → ServesAll self.new key.now service) }
+        ensures has { OnOk result ((service : ServiceValue)
+            → object_at key_cmp cache.now.services key.now ≡ Some service
+            → ServesAll self.new key.now service) }
     {
         match cache.service(key) {
             None => Ok(()),
@@ -220,7 +229,8 @@ impl Index {
     /// The key of an endpoint slice with a usable endpoint comes under its service.
     fn add_slice(&mut self, cache: &ObjectCache, slice: &EndpointSlice) -> Result<(), NoMemory>
         ensures grows { Grows self.old self.new }
-        ensures has { OnOk result (is_ready slice.now ≡ true → HasSlice self.new cache.now slice.now) }
+        ensures has { OnOk result (is_ready slice.now ≡ true
+            → HasSlice self.new cache.now slice.now) }
     {
         if is_ready(slice) {
             self.add_ready(cache, slice)
@@ -333,7 +343,8 @@ pub(crate) fn records(service: &Service, address: &Address) -> bool
     service.holding.addresses.as_slice().contains(address)
 }
 
-/// Whether an endpoint slice of this key is held, is one of the service's and has a usable endpoint.
+/// Whether an endpoint slice of this key is held, is one of the service's and has a usable
+/// endpoint.
 fn is_ready_of(cache: &ObjectCache, key: &Key, service: &Key) -> bool
     ensures { result ≡ is_ready_of (object_at key_cmp cache.now.slices key.now) service.now }
 {
@@ -351,7 +362,8 @@ fn any_serves(
     policy: Policy,
     node: &Text,
 ) -> bool
-    ensures { result ≡ list_any (λ key. passes (slice_serves service.now policy node.now) (object_at key_cmp cache.now.slices key)) keys.now.keys }
+    ensures { result ≡ list_any (λ key. passes (slice_serves service.now policy node.now)
+        (object_at key_cmp cache.now.slices key)) keys.now.keys }
 {
     for key in keys {
         if serves_at(cache, key, service, policy, node) {
@@ -362,7 +374,8 @@ fn any_serves(
 }
 
 fn serves_at(cache: &ObjectCache, key: &Key, service: &Key, policy: Policy, node: &Text) -> bool
-    ensures { result ≡ passes (slice_serves service.now policy node.now) (object_at key_cmp cache.now.slices key.now) }
+    ensures { result ≡ passes (slice_serves service.now policy node.now)
+        (object_at key_cmp cache.now.slices key.now) }
 {
     match cache.slices().get(key) {
         None => false,

@@ -1,5 +1,6 @@
 //! Which nodes an event changes.
-ghost use Rattle.std.specs.Prelude.{◌≡◌, ◌∷◌, ◌&&◌, ◌==◌, [], length, not, filter, map, if◌then◌else◌, IfOk, OnOk};
+ghost use Rattle.std.specs.Prelude.{◌≡◌, ◌∷◌, ◌&&◌, ◌==◌, [], length, not, filter, map};
+ghost use Rattle.std.specs.Prelude.{if◌then◌else◌, IfOk, OnOk};
 ghost use Rattle.std.specs.BTreeSet.{contains};
 ghost use Rattle.std.specs.Cmp.Lexicographic.{pointwise};
 ghost use Rattle.kube_labels.specs.Names.{name_cmp};
@@ -7,7 +8,8 @@ ghost use Rattle.kube_labels.specs.Pairs.{pair_eq};
 ghost use Rattle.pool_config.specs.KeySets.{keys_with};
 ghost use Rattle.versioned_map.specs.Objects.{is_newer};
 ghost use Rattle.speaker_view.specs.Endpoints.{node_labels};
-ghost use Rattle.speaker_view.specs.Nodes.{changed_members, deleted_nodes, drops_labels, nodes_by, shown_nodes, unlisted_nodes};
+ghost use Rattle.speaker_view.specs.Nodes.{changed_members, deleted_nodes, drops_labels, nodes_by};
+ghost use Rattle.speaker_view.specs.Nodes.{shown_nodes, unlisted_nodes};
 
 use crate::view::View;
 use kube_labels::{Text, TextList};
@@ -104,7 +106,8 @@ fn unlisted_nodes(alloc: Global, view: &View, group: ListGroup) -> Result<TextLi
 }
 
 fn dropped_nodes(alloc: Global, view: &View) -> Result<TextList, NoMemory>
-    ensures { IfOk result (λ names. names ≡ map (λ e. e.0) (filter drops_labels view.now.held.nodes)) }
+    ensures { IfOk result (λ names. names
+        ≡ map (λ e. e.0) (filter drops_labels view.now.held.nodes)) }
 {
     let mut names = TextList::new(alloc);
     for (name, held) in view.nodes().iter() {
@@ -152,7 +155,8 @@ fn insert_missing(
     others: &BTreeSet<Text>,
 ) -> Result<(), NoMemory>
     ensures { OnOk result (found.new.keys
-        ≡ keys_with name_cmp found.old.keys (filter (λ name. not (contains name_cmp others.now name)) names.now)) }
+        ≡ keys_with name_cmp found.old.keys
+        (filter (λ name. not (contains name_cmp others.now name)) names.now)) }
 {
     for name in names {
         if is_missing(others, name) {

@@ -1,5 +1,6 @@
 //! The view of a speaker.
-ghost use Rattle.std.specs.Prelude.{◌≡◌, ◌↔◌, ◌&&◌, ℕ, List, [], true, false, filter, Contains, Some, None, IfOk, OnOk, OnErr, IsErrOf, IsTrue};
+ghost use Rattle.std.specs.Prelude.{◌≡◌, ◌↔◌, ◌&&◌, ℕ, List, [], true, false, filter, Contains};
+ghost use Rattle.std.specs.Prelude.{Some, None, IfOk, OnOk, OnErr, IsErrOf, IsTrue};
 ghost use Rattle.std.specs.Option.{option_copied};
 ghost use Rattle.kube_model.specs.declared.object.Kind.{Kind as KindValue};
 ghost use Rattle.pool_config.specs.ConfigValue.{ConfigValue, IsConfig};
@@ -20,7 +21,8 @@ ghost use Rattle.speaker_view.specs.Addresses.{address_cmp};
 ghost use Rattle.speaker_view.specs.Change.{OthersStay, changed_addresses, is_accepted, recorded_at, served_by};
 ghost use Rattle.speaker_view.specs.Grouped.{service_of};
 ghost use Rattle.kube_model.specs.Service.{is_handled};
-ghost use Rattle.speaker_view.specs.Endpoints.{announced_from, endpoint_for, can_announce, node_labels, allows_balancers, has_usable};
+ghost use Rattle.speaker_view.specs.Endpoints.{announced_from, endpoint_for, can_announce};
+ghost use Rattle.speaker_view.specs.Endpoints.{node_labels, allows_balancers, has_usable};
 ghost use Rattle.speaker_view.specs.Endpoints.{is_recorded_in, is_served_in, recorded_addresses, HasEndpoint, CanAnnounce};
 ghost use Rattle.speaker_view.specs.Index.{Covers, HasShown, passes};
 ghost use Rattle.speaker_view.specs.Nodes.{AreChangedNodes, nodes_by};
@@ -41,8 +43,8 @@ use std::collections::btree_map::Keys;
 use std::marker::Model;
 use versioned_map::VersionedMap;
 
-/// What a speaker sees: the objects of the cluster as they were last shown, the configuration in force, and the nodes whose
-/// speakers are active.
+/// What a speaker sees: the objects of the cluster as they were last shown, the configuration in
+/// force, and the nodes whose speakers are active.
 pub struct View {
     class: Option<Text>,
     cache: ObjectCache,
@@ -78,8 +80,8 @@ impl Model for View {
 }
 
 impl View {
-    /// A view of nothing, whose speaker announces the services of this class (`spec.loadBalancerClass`), or those without one.
-    /// It takes no memory.
+    /// A view of nothing, whose speaker announces the services of this class
+    /// (`spec.loadBalancerClass`), or those without one. It takes no memory.
     pub fn new(alloc: Global, class: Option<Text>) -> View
         ensures { result ≡ fresh class }
     {
@@ -93,13 +95,14 @@ impl View {
         }
     }
 
-    /// Applies an event, by the rules of `ObjectCache::apply`; one that tells the members replaces them. After a refusal the view
-    /// is unchanged.
+    /// Applies an event, by the rules of `ObjectCache::apply`; one that tells the members replaces
+    /// them. After a refusal the view is unchanged.
     pub fn apply(&mut self, event: Event) -> Result<TakeNote, ApplyFault>
         ensures note { IfOk result (λ note. note ≡ note_by self.old event) }
         ensures ok { OnOk result (self.new ≡ view_after event self.old) }
         ensures limit { (kind : KindValue) (count : ℕ)
-            → IsErrOf result (ApplyFault.Limit kind count) ↔ (limit_by self.old event ≡ Some (kind, count)) }
+            → IsErrOf result (ApplyFault.Limit kind count)
+            ↔ (limit_by self.old event ≡ Some (kind, count)) }
         ensures err { OnErr result (self.new ≡ self.old) }
     {
         match event {
@@ -121,7 +124,8 @@ impl View {
         ensures ok { OnOk result (self.new ≡ view_after event self.old) }
         ensures stay { IfOk result (λ noted. OthersStay self.old self.new noted.1) }
         ensures limit { (kind : KindValue) (count : ℕ)
-            → IsErrOf result (ApplyFault.Limit kind count) ↔ (limit_by self.old event ≡ Some (kind, count)) }
+            → IsErrOf result (ApplyFault.Limit kind count)
+            ↔ (limit_by self.old event ≡ Some (kind, count)) }
         ensures err { OnErr result (self.new ≡ self.old) }
     {
         if let Some((kind, count)) = self.limit_of(&event) {
@@ -142,7 +146,8 @@ impl View {
         ensures ok { OnOk result (self.new ≡ view_after event self.old) }
         ensures stay { IfOk result (λ noted. OthersStay self.old self.new noted.1) }
         ensures limit { (kind : KindValue) (count : ℕ)
-            → IsErrOf result (ApplyFault.Limit kind count) ↔ (limit_by self.old event ≡ Some (kind, count)) }
+            → IsErrOf result (ApplyFault.Limit kind count)
+            ↔ (limit_by self.old event ≡ Some (kind, count)) }
         ensures err { OnErr result (self.new ≡ self.old) }
     {
         let (addresses, nodes) = match self.changed_by(&event) {
@@ -195,7 +200,8 @@ impl View {
     /// The configuration in force.
     pub fn config(&self) -> Option<&Config>
         ensures value { option_copied result ≡ self.now.held.config }
-        ensures known { (config : ConfigValue) → self.now.held.config ≡ Some config → IsConfig config }
+        ensures known { (config : ConfigValue) → self.now.held.config ≡ Some config
+            → IsConfig config }
     {
         let config = self.cache.config()?;
         config.known();
@@ -226,7 +232,8 @@ impl View {
         self.cache.nodes()
     }
 
-    /// The held service of the key. An endpoint slice is of no other than the one that is held under the key of its service.
+    /// The held service of the key. An endpoint slice is of no other than the one that is held
+    /// under the key of its service.
     pub fn service(&self, key: &Key) -> Option<&Service>
         ensures object { option_copied result ≡ object_at key_cmp self.now.held.services key.now }
         ensures served { (slice : SliceValue) → service_of slice ≡ key.now → served_by self.now (Some slice) ≡ recorded_at self.now key.now }
@@ -275,7 +282,8 @@ impl View {
         Ok(found)
     }
 
-    /// Whether some held service records the address. It looks at these services alone, and takes no memory.
+    /// Whether some held service records the address. It looks at these services alone, and takes
+    /// no memory.
     pub fn is_recorded(&self, address: &Address) -> bool
         ensures { result ≡ is_recorded_in self.now address.now }
     {
@@ -293,8 +301,8 @@ impl View {
         self.cache.slices()
     }
 
-    /// Whether some endpoint slice of the service has a usable endpoint, and for the policy Local one on the node. It takes no
-    /// memory.
+    /// Whether some endpoint slice of the service has a usable endpoint, and for the policy Local
+    /// one on the node. It takes no memory.
     pub fn endpoint_for(&self, service: &Service, node: &Text) -> bool
         ensures value { result ≡ endpoint_for self.now service.now node.now }
         ensures meaning { IsTrue result ↔ HasEndpoint self.now service.now node.now }
@@ -309,8 +317,9 @@ impl View {
             .serves(&self.cache, &service.key, service.policy, node)
     }
 
-    /// Whether the node may announce the service's addresses: the service is of the speaker's class, it has an endpoint for the
-    /// node, and the node isn't kept from load balancers. It takes no memory.
+    /// Whether the node may announce the service's addresses: the service is of the speaker's
+    /// class, it has an endpoint for the node, and the node isn't kept from load balancers. It
+    /// takes no memory.
     pub fn can_announce(&self, service: &Service, node: &Text) -> bool
         ensures value { result ≡ can_announce self.now service.now node.now }
         ensures meaning { IsTrue result ↔ CanAnnounce self.now service.now node.now }
@@ -324,8 +333,8 @@ impl View {
         self.handles(service) && self.serves_from(service, node) && self.lets_balance(node)
     }
 
-    /// Whether some held service that records the address can be announced from the node. Of these services it
-    /// looks at those with a usable endpoint alone, and takes no memory.
+    /// Whether some held service that records the address can be announced from the node. Of these
+    /// services it looks at those with a usable endpoint alone, and takes no memory.
     pub fn is_announced_from(&self, address: &Address, node: &Text) -> bool
         ensures { result ≡ announced_from self.now address.now node.now }
     {
@@ -337,11 +346,13 @@ impl View {
         }
     }
 
-    /// Whether some held service that records the address has a usable endpoint, on whichever node; where none has, the address is
-    /// announced from no node. It looks at these services and their endpoint slices alone, and takes no memory.
+    /// Whether some held service that records the address has a usable endpoint, on whichever node;
+    /// where none has, the address is announced from no node. It looks at these services and their
+    /// endpoint slices alone, and takes no memory.
     pub fn is_served(&self, address: &Address) -> bool
         ensures value { result ≡ is_served_in self.now address.now }
-        ensures nowhere { (node : List ℕ) → result ≡ false → announced_from self.now address.now node ≡ false }
+        ensures nowhere { (node : List ℕ) → result ≡ false
+            → announced_from self.now address.now node ≡ false }
     {
         let _ascending = self.cache.services().len();
         let _ascend = self.cache.slices().len();
@@ -351,16 +362,20 @@ impl View {
         }
     }
 
-    /// Whether a service of one of these keys is held, records the address and has a usable endpoint.
+    /// Whether a service of one of these keys is held, records the address and has a usable
+    /// endpoint.
     fn serves_one(&self, keys: &BTreeSet<Key>, address: &Address) -> bool
-        ensures { result ≡ list_any (λ key. passes (λ service. has_address service.holding.addresses address.now && has_usable self.now service)
+        ensures { result ≡ list_any (λ key. passes
+            (λ service. has_address service.holding.addresses address.now
+            && has_usable self.now service)
             (object_at key_cmp self.now.held.services key)) keys.now.keys }
     {
         keys.iter().any(|key| self.serves_at(key, address))
     }
 
     fn serves_at(&self, key: &Key, address: &Address) -> bool
-        ensures { result ≡ passes (λ service. has_address service.holding.addresses address.now && has_usable self.now service)
+        ensures { result ≡ passes (λ service. has_address service.holding.addresses address.now
+            && has_usable self.now service)
             (object_at key_cmp self.now.held.services key.now) }
     {
         match self.cache.service(key) {
@@ -381,9 +396,12 @@ impl View {
         )
     }
 
-    /// Whether a service of one of these keys is held, records the address and can be announced from the node.
+    /// Whether a service of one of these keys is held, records the address and can be announced
+    /// from the node.
     fn announces_one(&self, keys: &BTreeSet<Key>, address: &Address, node: &Text) -> bool
-        ensures { result ≡ list_any (λ key. passes (λ service. has_address service.holding.addresses address.now && can_announce self.now service node.now)
+        ensures { result ≡ list_any (λ key. passes
+            (λ service. has_address service.holding.addresses address.now
+            && can_announce self.now service node.now)
             (object_at key_cmp self.now.held.services key)) keys.now.keys }
     {
         for key in keys {
@@ -395,7 +413,8 @@ impl View {
     }
 
     fn announces_at(&self, key: &Key, address: &Address, node: &Text) -> bool
-        ensures { result ≡ passes (λ service. has_address service.holding.addresses address.now && can_announce self.now service node.now)
+        ensures { result ≡ passes (λ service. has_address service.holding.addresses address.now
+            && can_announce self.now service node.now)
             (object_at key_cmp self.now.held.services key.now) }
     {
         match self.cache.service(key) {
@@ -430,7 +449,8 @@ fn apply_to(
     ensures note { IfOk result (λ note. note ≡ (applied cache.old event).note) }
     ensures ok { OnOk result (cache.new ≡ cached_after (Watched event) cache.old) }
     ensures limit { (kind : KindValue) (count : ℕ)
-        → IsErrOf result (ApplyFault.Limit kind count) ↔ (limit_of cache.old event ≡ Some (kind, count)) }
+        → IsErrOf result (ApplyFault.Limit kind count)
+        ↔ (limit_of cache.old event ≡ Some (kind, count)) }
     ensures err { OnErr result (cache.new ≡ cache.old) }
     ensures covers { Covers index.new cache.new }
 {
@@ -489,7 +509,8 @@ fn apply_within(
     ensures note { IfOk result (λ note. note ≡ (applied cache.old event).note) }
     ensures ok { OnOk result (cache.new ≡ cached_after (Watched event) cache.old) }
     ensures limit { (kind : KindValue) (count : ℕ)
-        → IsErrOf result (ApplyFault.Limit kind count) ↔ (limit_of cache.old event ≡ Some (kind, count)) }
+        → IsErrOf result (ApplyFault.Limit kind count)
+        ↔ (limit_of cache.old event ≡ Some (kind, count)) }
     ensures err { OnErr result (cache.new ≡ cache.old) }
     ensures covers { Covers index.now cache.new }
 {
@@ -501,7 +522,8 @@ fn apply_within(
     }
 }
 
-/// Whether nodes with these labels aren't kept from load balancers (Kubernetes, "Well-Known Labels").
+/// Whether nodes with these labels aren't kept from load balancers (Kubernetes, "Well-Known
+/// Labels").
 fn allows_balancers(labels: &Labels) -> bool
     ensures { result ≡ allows_balancers labels.now }
 {

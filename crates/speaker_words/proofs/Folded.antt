@@ -8,7 +8,7 @@ use Rattle.speaker_words.specs.Interface.{InterfaceValue, IsInterface, interface
 use Rattle.speaker_words.specs.Reading.{with_one, one_more}
 use Rattle.speaker_words.proofs.Interfaces.{IsTable, read-interface, interface-read, takes-one, one-taken, new-name, room-for}
 
--- The interfaces are those held and, behind them, those of the values.
+-- The interfaces are those held and, after them, those of the values.
 pub record Adds (values : List (List ℕ)) (held is : List InterfaceValue) : Type 0 where
   pub more : List InterfaceValue
   pub are : is ≡ held ++ more

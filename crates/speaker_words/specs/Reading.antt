@@ -126,7 +126,7 @@ finished responder g =
 abbrev pub is_flag : List ℕ → Bool
 is_flag word = bytes_eq word responder_flag
 
--- what the options ahead of the flag and behind it give; all words are ahead of it where it isn't there
+-- what the options ahead of the flag and after it give; all words are ahead of it where it isn't there
 abbrev pub given_in : List (List ℕ) → Option Given
 given_in words =
     option_and_then (taken_in with_option (after_first is_flag words)) (taken_in with_option (before_first is_flag words) nothing_given)

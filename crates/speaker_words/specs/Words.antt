@@ -64,7 +64,7 @@ pub record IsNextHop (family : Family) (text : List ℕ) (a : AddressValue) : Ty
 abbrev pub AreApart : List InterfaceValue → Type 0
 AreApart interfaces = AllPairs (λ i j. i.name ≢ j.name) interfaces
 
--- The words are these options, one behind the other, and where the flag is said it stands once, ahead of one of them or behind the last.
+-- The words are these options, one after the other, and where the flag is said it stands once, ahead of one of them or after the last.
 abbrev pub AreSpelled : Bool → List CommandOption → List (List ℕ) → Type 0
 AreSpelled false options words = AreOptions options words
 AreSpelled true options words =

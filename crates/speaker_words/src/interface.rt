@@ -11,12 +11,13 @@ use hex::FromHex;
 pub struct InterfaceWord<'a> {
     /// The interface's name. It has no `=`, and may be empty.
     pub name: &'a str,
-    /// Its hardware address, the octets in the order that they are sent in (EUI-48; RFC 9542, section 2.1).
+    /// Its hardware address, the octets in the order that they are sent in (EUI-48; RFC 9542,
+    /// section 2.1).
     pub mac: [u8; 6],
 }
 
-/// The interface of a value `NAME=MAC`, which is split at its first `=`. `None` where the value has no `=`, or where no hardware address
-/// stands behind it.
+/// The interface of a value `NAME=MAC`, which is split at its first `=`. `None` where the value has
+/// no `=`, or where no hardware address stands after it.
 pub(crate) fn interface_of(value: &str) -> Option<InterfaceWord<'_>>
     ensures { option_map interface_seen result ≡ interface_of value.now }
 {
@@ -25,7 +26,8 @@ pub(crate) fn interface_of(value: &str) -> Option<InterfaceWord<'_>>
     Some(InterfaceWord { name, mac })
 }
 
-/// The hardware address that the text writes: six octets of two hexadecimal digits, with `:` between them.
+/// The hardware address that the text writes: six octets of two hexadecimal digits, with `:`
+/// between them.
 #[tactic(auto, unfolding(crate::specs::Interface::mac_of))]
 fn mac_of(text: &[u8]) -> Option<[u8; 6]>
     ensures { result ≡ mac_of text.now }

@@ -6,8 +6,10 @@ ghost use Rattle.std.specs.Option.{option_map};
 ghost use Rattle.command_options.specs.Lanes.{lane_seen};
 ghost use Rattle.command_options.specs.Options.{texts_of};
 ghost use Rattle.speaker_words.specs.Words.{Say, AreKnown};
-ghost use Rattle.speaker_words.specs.Reading.{said_in, Given, with_option, with_node, with_class, with_interface, with_one};
-ghost use Rattle.speaker_words.specs.Reading.{with_next_hop, with_next_hop_v6, next_hop_of, hops_stand, responder_stands, with_watch, with_frame};
+ghost use Rattle.speaker_words.specs.Reading.{said_in, Given, with_option, with_node, with_class};
+ghost use Rattle.speaker_words.specs.Reading.{with_interface, with_one};
+ghost use Rattle.speaker_words.specs.Reading.{with_next_hop, with_next_hop_v6, next_hop_of};
+ghost use Rattle.speaker_words.specs.Reading.{hops_stand, responder_stands, with_watch, with_frame};
 ghost use Rattle.speaker_words.specs.Reading.{finished, is_flag};
 ghost use Rattle.speaker_words.specs.Seen.{interface_seen, interfaces_seen, given_seen, said_seen};
 
@@ -40,17 +42,23 @@ pub type InterfaceWords<'a> = ArrayVec<InterfaceWord<'a>, 16>;
 pub struct SpeakerWords<'a> {
     /// The name of the node that the speaker runs on: a text that isn't empty.
     pub node: &'a str,
-    /// The class of the services that it announces, a text that isn't empty; with none, those that name none.
+    /// The class of the services that it announces, a text that isn't empty; with none, those that
+    /// name none.
     pub class: Option<&'a str>,
-    /// The interfaces that it answers on, as they stand in the words: 16 at most, of distinct names.
+    /// The interfaces that it answers on, as they stand in the words: 16 at most, of distinct
+    /// names.
     pub interfaces: InterfaceWords<'a>,
-    /// The IPv4 address that its routes lead to (RFC 4271, section 5.1.3); with none, it tells no routes.
+    /// The IPv4 address that its routes lead to (RFC 4271, section 5.1.3); with none, it tells no
+    /// routes.
     pub next_hop: Option<Address>,
-    /// The IPv6 address that its IPv6 routes lead to (RFC 2545, section 3), only beside one of IPv4; with none, it tells no IPv6 routes.
+    /// The IPv6 address that its IPv6 routes lead to (RFC 2545, section 3), only beside one of
+    /// IPv4; with none, it tells no IPv6 routes.
     pub next_hop_v6: Option<Address>,
-    /// The files of the watched objects and of the received frames; with none, all comes by one stream.
+    /// The files of the watched objects and of the received frames; with none, all comes by one
+    /// stream.
     pub lanes: Option<LaneFiles<'a>>,
-    /// Frames are answered on a thread of their own, by a view that is published; only beside two lanes.
+    /// Frames are answered on a thread of their own, by a view that is published; only beside two
+    /// lanes.
     pub responder: bool,
 }
 
@@ -67,12 +75,15 @@ struct SaidSoFar<'a> {
 
 /// What the words say, where they are of the speaker's table.
 ///
-/// The table: `--node-name NODE` once; `--lb-class CLASS` and `--next-hop ADDRESS` at most once, the address an IPv4 one in dotted decimal
-/// without leading zeros; `--next-hop-v6 ADDRESS` at most once, an IPv6 address in the text of RFC 4291, section 2.2, which isn't a mapped
-/// IPv4 one, and only beside `--next-hop`; `--interface NAME=MAC` up to 16 times, split at the first `=`, with distinct names, of which one may be empty,
-/// and with six octets of two hexadecimal digits of either case and `:` between them; `--watch-lane FILE` and `--frame-lane FILE` once each,
-/// of distinct names, or neither; the word `--responder` at most once, ahead of an option or behind the last, and only beside these two. Each
-/// option is one word with `=`, or two. `None` where the words aren't of the table. It takes no memory.
+/// The table: `--node-name NODE` once; `--lb-class CLASS` and `--next-hop ADDRESS` at most once,
+/// the address an IPv4 one in dotted decimal without leading zeros; `--next-hop-v6 ADDRESS` at most
+/// once, an IPv6 address in the text of RFC 4291, section 2.2, which isn't a mapped IPv4 one, and
+/// only beside `--next-hop`; `--interface NAME=MAC` up to 16 times, split at the first `=`, with
+/// distinct names, of which one may be empty, and with six octets of two hexadecimal digits of
+/// either case and `:` between them; `--watch-lane FILE` and `--frame-lane FILE` once each, of
+/// distinct names, or neither; the word `--responder` at most once, ahead of an option or after the
+/// last, and only beside these two. Each option is one word with `=`, or two. `None` where the
+/// words aren't of the table. It takes no memory.
 pub fn speaker_words(words: &[String]) -> Option<SpeakerWords<'_>>
     ensures value { option_map said_seen result ≡ said_in (texts_of words.now) }
 
@@ -99,7 +110,8 @@ fn read_words(words: &[String]) -> Option<SpeakerWords<'_>>
     finished(taken_options(behind, given)?, responder)
 }
 
-/// The words ahead of the first flag and those behind it, and whether it is there; all are ahead where it isn't.
+/// The words ahead of the first flag and those after it, and whether it is there; all are ahead
+/// where it isn't.
 fn split_at_flag(words: &[String]) -> (&[String], &[String], bool)
     ensures ahead { texts_of result.0.now ≡ before_first is_flag (texts_of words.now) }
     ensures behind { texts_of result.1.now ≡ after_first is_flag (texts_of words.now) }
@@ -184,7 +196,8 @@ fn with_one<'a>(
     interfaces: InterfaceWords<'a>,
     interface: InterfaceWord<'a>,
 ) -> Option<InterfaceWords<'a>>
-    ensures { option_map interfaces_seen result ≡ with_one (interfaces_seen interfaces.entry) (interface_seen interface.entry) }
+    ensures { option_map interfaces_seen result
+        ≡ with_one (interfaces_seen interfaces.entry) (interface_seen interface.entry) }
 {
     let mut interfaces = interfaces;
     if interfaces.is_full() || is_named(interfaces.as_slice(), interface.name) {

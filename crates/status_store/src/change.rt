@@ -9,7 +9,8 @@ pub enum Outcome {
     Delivered,
     /// No reply came back. The put reached the store if it is applied, and else it didn't.
     Lost { applied: bool },
-    /// The store refused it for a reason of its own (in Kubernetes 403 or 422): nothing is stored, and the reply says that the put is stale.
+    /// The store refused it for a reason of its own (in Kubernetes 403 or 422): nothing is stored,
+    /// and the reply says that the put is stale.
     Refused,
 }
 

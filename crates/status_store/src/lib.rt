@@ -1,5 +1,5 @@
-//! The objects that are stored in a cluster, and the writing of services' records to them: the store, the line of a
-//! put, and the reply to it.
+//! The objects that are stored in a cluster, and the writing of services' records to them: the
+//! store, the line of a put, and the reply to it.
 #![tactic(auto)]
 
 mod change;

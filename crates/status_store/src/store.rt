@@ -1,11 +1,16 @@
 //! The store of a cluster's objects.
-ghost use Rattle.std.specs.Prelude.{◌≡◌, ◌↔◌, ◌<◌, ◌+◌, ◌-◌, ◌^◌, ℕ, false, IfOk, IfErr, IfSome, IfNone, OnOk, OnErr, IsTrue, if◌then◌else◌};
+ghost use Rattle.std.specs.Prelude.{◌≡◌, ◌↔◌, ◌<◌, ◌+◌, ◌-◌, ◌^◌, ℕ, false, IfOk, IfErr, IfSome};
+ghost use Rattle.std.specs.Prelude.{IfNone, OnOk, OnErr, IsTrue, if◌then◌else◌};
 ghost use Rattle.std.specs.List.{slice_index_or};
 ghost use Rattle.std.specs.Option.{option_copied};
 ghost use Rattle.status_store.specs.Places.{place_of, service_at};
-ghost use Rattle.status_store.specs.Objects.{IsStored, IsAbsent, SameElsewhere, IsAscending, AreCounted, IsAt, IsGapFor, stored_at};
-ghost use Rattle.status_store.specs.Changes.{IsWellFormed, empty_store, SetsObject, OnSet, ResetsObject, OnReset, OnDelete, DeletesNothing, edited_place};
-ghost use Rattle.status_store.specs.Changes.{is_change, edited, IsLost, arrives, IsCurrent, IsStale, IsMade, RecordsPut, after_put, reply_to};
+ghost use Rattle.status_store.specs.Objects.{IsStored, IsAbsent, SameElsewhere, IsAscending};
+ghost use Rattle.status_store.specs.Objects.{AreCounted, IsAt, IsGapFor, stored_at};
+ghost use Rattle.status_store.specs.Changes.{IsWellFormed, empty_store, SetsObject, OnSet};
+ghost use Rattle.status_store.specs.Changes.{ResetsObject, OnReset, OnDelete, DeletesNothing};
+ghost use Rattle.status_store.specs.Changes.{edited_place};
+ghost use Rattle.status_store.specs.Changes.{is_change, edited, IsLost, arrives, IsCurrent};
+ghost use Rattle.status_store.specs.Changes.{IsStale, IsMade, RecordsPut, after_put, reply_to};
 
 use crate::change::{Edit, Outcome};
 use crate::place::key_parts;
@@ -17,9 +22,10 @@ use mlb_base::{NoMemory, Sequence, TryCopy};
 use std::alloc::Global;
 use std::marker::Model;
 
-/// A cluster's objects as its API server keeps them: each change takes the next version of one counter, from 1, and the
-/// object that was changed has that version (Kubernetes' `metadata.resourceVersion`). Objects stand by kind, in the order
-/// in which kinds are declared, and then by key.
+/// A cluster's objects as its API server keeps them: each change takes the next version of one
+/// counter, from 1, and the object that was changed has that version (Kubernetes'
+/// `metadata.resourceVersion`). Objects stand by kind, in the order in which kinds are declared,
+/// and then by key.
 pub struct Store {
     alloc: Global,
     objects: StoredList,
@@ -58,7 +64,8 @@ impl Store {
         }
     }
 
-    /// What is stored, by kind and then by key. Services have the records that were written to them.
+    /// What is stored, by kind and then by key. Services have the records that were written to
+    /// them.
     pub fn list(&self) -> &StoredList
         ensures objects { result.now ≡ self.now.objects }
         ensures ascending { IsAscending self.now.objects }
@@ -76,7 +83,8 @@ impl Store {
 
     /// What is stored of this kind and key.
     pub fn get(&self, kind: Kind, key: &Key) -> Option<&Stored>
-        ensures stored { IfSome result (λ held. IsStored self.now.objects (kind, key.now) held.now) }
+        ensures stored { IfSome result
+            (λ held. IsStored self.now.objects (kind, key.now) held.now) }
         ensures absent { IfNone result (IsAbsent self.now.objects (kind, key.now)) }
 
         // The same as one function.
@@ -88,19 +96,23 @@ impl Store {
         }
     }
 
-    /// Makes the change, which takes the next version. A service keeps the record that is stored, whatever the one that is
-    /// handed in says, and a new one has an empty record, unless it is reset. False, and nothing is changed, exactly where an object is deleted
-    /// that isn't there. After want of memory the store is unchanged.
+    /// Makes the change, which takes the next version. A service keeps the record that is stored,
+    /// whatever the one that is handed in says, and a new one has an empty record, unless it is
+    /// reset. False, and nothing is changed, exactly where an object is deleted that isn't there.
+    /// Where memory ran out the store is unchanged.
     pub fn edit(&mut self, edit: Edit) -> Result<bool, NoMemory>
         requires { self.old.counter < 2 ^ 64 - 1 }
 
-        ensures absent { IfOk result (λ done. (done ≡ false) ↔ DeletesNothing edit self.old.objects) }
+        ensures absent { IfOk result (λ done. (done ≡ false)
+            ↔ DeletesNothing edit self.old.objects) }
         ensures unchanged { IfOk result (λ done. done ≡ false → self.new ≡ self.old) }
 
         ensures set { OnOk result (OnSet edit (λ object. SetsObject object self.old self.new)) }
-        ensures reset { OnOk result (OnReset edit (λ object. ResetsObject object self.old self.new)) }
+        ensures reset { OnOk result (OnReset edit
+            (λ object. ResetsObject object self.old self.new)) }
         ensures deleted { OnOk result (OnDelete edit (IsAbsent self.new.objects)) }
-        ensures others { OnOk result (SameElsewhere (edited_place edit) self.old.objects self.new.objects) }
+        ensures others { OnOk result (SameElsewhere
+            (edited_place edit) self.old.objects self.new.objects) }
         ensures counter { IfOk result (λ done.
             self.new.counter ≡ (if done then self.old.counter + 1 else self.old.counter)) }
 
@@ -244,20 +256,24 @@ impl Store {
         true
     }
 
-    /// Writes a record to a service's status, as an update that names the version that it was read at: it is made exactly
-    /// where the service is stored at that version, and takes the next version (in Kubernetes the reply is NotFound where
-    /// there is no such service, and Conflict where it has another version). A put that is lost is answered `Unknown`,
-    /// whether it was applied or not, and one that is refused `Stale`. After want of memory the store is unchanged.
+    /// Writes a record to a service's status, as an update that names the version that it was read
+    /// at: it is made exactly where the service is stored at that version, and takes the next
+    /// version (in Kubernetes the reply is NotFound where there is no such service, and Conflict
+    /// where it has another version). A put that is lost is answered `Unknown`, whether it was
+    /// applied or not, and one that is refused `Stale`. Where memory ran out the store is
+    /// unchanged.
     pub fn put(&mut self, put: &Put, outcome: Outcome) -> Result<PutReply, NoMemory>
         requires { self.old.counter < 2 ^ 64 - 1 }
 
         ensures unknown { IfOk result (λ reply. (reply ≡ PutReply.Unknown) ↔ IsLost outcome) }
         ensures missing { IfOk result (λ reply. (reply ≡ PutReply.Missing)
-            ↔ ((outcome ≡ Outcome.Delivered) × IsAbsent self.old.objects (service_at put.now.key))) }
+            ↔ ((outcome ≡ Outcome.Delivered)
+            × IsAbsent self.old.objects (service_at put.now.key))) }
         ensures stale { IfOk result (λ reply. (reply ≡ PutReply.Stale)
             ↔ IsStale put.now outcome self.old.objects) }
         ensures stored { IfOk result (λ reply. (version : ℕ) → (reply ≡ PutReply.Ok version)
-            ↔ ((outcome ≡ Outcome.Delivered) × IsCurrent self.old.objects put.now × (version ≡ self.old.counter + 1))) }
+            ↔ ((outcome ≡ Outcome.Delivered) × IsCurrent self.old.objects put.now
+            × (version ≡ self.old.counter + 1))) }
 
         ensures recorded { OnOk result (IsMade put.now outcome self.old.objects
             → RecordsPut put.now self.old self.new) }
@@ -318,7 +334,8 @@ impl Store {
     fn record(&mut self, at: usize, put: &Put) -> Result<PutReply, NoMemory>
         requires room { self.old.counter < 2 ^ 64 - 1 }
         requires found { IsAt self.old.objects (service_at put.now.key) at }
-        requires current { (d : Stored) → (slice_index_or self.old.objects at d).version ≡ put.now.version }
+        requires current { (d : Stored)
+            → (slice_index_or self.old.objects at d).version ≡ put.now.version }
         ensures reply { IfOk result (λ reply. reply ≡ reply_to put.now Outcome.Delivered self.old) }
         ensures store { OnOk result (self.new ≡ after_put put.now Outcome.Delivered self.old) }
         ensures err { OnErr result (self.new ≡ self.old) }

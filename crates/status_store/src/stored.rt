@@ -40,7 +40,7 @@ pub fn search(objects: &[Stored], kind: Kind, namespace: &str, name: &str) -> Re
     objects.binary_search_by(|stored| order(&stored.object, kind, namespace, name))
 }
 
-/// Inserts what is to stand here. After want of memory the list is unchanged.
+/// Inserts what is to stand here. Where memory ran out the list is unchanged.
 pub fn insert_at(
     objects: &mut StoredList,
     alloc: Global,

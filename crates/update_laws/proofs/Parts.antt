@@ -31,7 +31,7 @@ withdraw-withdrawn w few =
     ∙ ap (take (length w)) (append-nil ((w ++ 0 ∷ 0 ∷ []) ++ []) ∙ append-nil (w ++ 0 ∷ 0 ∷ []))
     ∙ take_at w (0 ∷ 0 ∷ []) (length w) refl
 
--- what withdraws nothing behind its own length has its attributes and announces the rest
+-- what withdraws nothing after its own length has its attributes and announces the rest
 pub announce-withdrawn : (a n : List ℕ) → withdrawn_octets (message_of [] a n) ≡ []
 unfolding withdrawn_octets
 announce-withdrawn a n = refl

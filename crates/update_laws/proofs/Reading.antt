@@ -97,7 +97,7 @@ reads-preference : (n : ℕ) (own preference : Option ℕ) (rest : List ℕ) (to
 reads-preference n None preference rest told reads = reads-short n 0x40 5 (to_be_bytes w32 (unwrap_or preference 0)) rest told refl reads
 reads-preference n (Some own) preference rest told reads = reads-more n rest told reads
 
--- behind ORIGIN and AS_PATH
+-- after ORIGIN and AS_PATH
 reads-behind : (n : ℕ) (own : Option ℕ) (rest : List ℕ) (told : List Attribute) → ReadsAs n rest told
     → ReadsAs (suc (suc n)) ((0x40 ∷ 1 ∷ 1 ∷ 2 ∷ []) ++ (path_attribute own ++ rest)) (origin_incomplete ∷ as_path own ∷ told)
 reads-behind n None rest told reads =

@@ -13,25 +13,25 @@ pub record Attribute : Type 0 where
 abbrev pub is_extended : ℕ → Bool
 is_extended flags = flags / 0x10 % 2 == 1
 
--- an attribute whose value has so many octets, and what is read behind it
+-- an attribute whose value has so many octets, and what is read after it
 abbrev pub value_then : (List ℕ → Option (List Attribute)) → ℕ → ℕ → ℕ → List ℕ → Option (List Attribute)
 value_then read flags code size octets =
     if nat_le size (length octets)
     then option_map (λ more. record { flags = flags; code = code; value = take size octets } ∷ more) (read (drop size octets))
     else None
 
--- the same, behind a length of one octet
+-- the same, after a length of one octet
 abbrev pub short_then : (List ℕ → Option (List Attribute)) → ℕ → ℕ → List ℕ → Option (List Attribute)
 short_then read flags code [] = None
 short_then read flags code (size ∷ octets) = value_then read flags code size octets
 
--- the same, behind one of two octets
+-- the same, after one of two octets
 abbrev pub long_then : (List ℕ → Option (List Attribute)) → ℕ → ℕ → List ℕ → Option (List Attribute)
 long_then read flags code [] = None
 long_then read flags code (high ∷ []) = None
 long_then read flags code (high ∷ low ∷ octets) = value_then read flags code (high * 0x100 + low) octets
 
--- at most so many attributes, one behind the other; `None` where the octets aren't that
+-- at most so many attributes, one after the other; `None` where the octets aren't that
 abbrev pub attributes_within : ℕ → List ℕ → Option (List Attribute)
 attributes_within most [] = Some []
 attributes_within zero (flags ∷ rest) = None
@@ -45,8 +45,8 @@ attributes_within (suc most) (flags ∷ code ∷ rest) =
 abbrev pub attributes_in : List ℕ → Option (List Attribute)
 attributes_in octets = attributes_within (length octets) octets
 
--- ---- where they lie in an UPDATE message: behind the header of 19 octets come the withdrawn routes and then the path attributes, each
--- part behind its length, and the announced prefixes to the end
+-- ---- where they lie in an UPDATE message: after the header of 19 octets come the withdrawn routes and then the path attributes, each
+-- part after its length, and the announced prefixes to the end
 abbrev pub two_octets : List ℕ → ℕ → ℕ
 two_octets octets place = slice_index octets place * 0x100 + slice_index octets (place + 1)
 

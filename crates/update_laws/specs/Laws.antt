@@ -74,7 +74,7 @@ attributes_told family peering withdrawn announced (Some terms) =
     origin_incomplete ∷ as_path peering.own ∷ (next_hop family peering.next_hop ++ (local_pref peering.own terms.preference
     ++ (communities terms.communities ++ (mp_reach family peering.next_hop_v6 announced ++ large_community terms.large))))
 
--- the prefixes behind the message's own lengths: those of IPv4 alone
+-- the prefixes after the message's own lengths: those of IPv4 alone
 abbrev pub own_octets : Family → List PrefixValue → List ℕ
 own_octets V4 prefixes = prefixes_bytes prefixes
 own_octets V6 prefixes = []

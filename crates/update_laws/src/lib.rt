@@ -1,5 +1,5 @@
-//! Laws that pin UPDATE messages from outside: messages written out by hand, and a reader of path attributes by RFC 4271, section 4.3
-//! alone. Each is the contract of a function that does nothing.
+//! Laws that pin UPDATE messages from outside: messages written out by hand, and a reader of path
+//! attributes by RFC 4271, section 4.3 alone. Each is the contract of a function that does nothing.
 #![tactic(auto)]
 
 mod laws;

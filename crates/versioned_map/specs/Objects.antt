@@ -24,7 +24,7 @@ version_at cmp entries key = option_map_or (λ h. h.version) (held_at cmp entrie
 abbrev pub is_newer : {K T : Type 0} → (K → K → Ordering) → List (K × Versioned T) → K → ℕ → Bool
 is_newer cmp entries key version = not (nat_le version (version_at cmp entries key))
 
--- an object is shown: it is held from now on where it is newer, and else it is passed over
+-- an object is shown: it is held from now on where it is newer, and else it is ignored
 abbrev pub shown : {K T : Type 0} → (K → K → Ordering) → List (K × Versioned T) → K → ℕ → T → List (K × Versioned T)
 shown cmp entries key version object =
     if nat_le version (version_at cmp entries key) then entries

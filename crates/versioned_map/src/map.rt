@@ -7,7 +7,8 @@ ghost use Rattle.std.specs.List.Sorted.{IsStrictlySortedBy};
 ghost use Rattle.std.specs.Map.Iter.{ShowsInOrder, deref_pair};
 ghost use Rattle.std.specs.Fn.{FnOnceReturnsAtMut};
 ghost use Rattle.versioned_map.specs.declared.map.Versioned.{Versioned};
-ghost use Rattle.versioned_map.specs.Objects.{version_at, object_at, shown, shown_note, expired, listed, Amends};
+ghost use Rattle.versioned_map.specs.Objects.{version_at, object_at, shown, shown_note, expired};
+ghost use Rattle.versioned_map.specs.Objects.{listed, Amends};
 
 use mlb_base::{NoMemory, TryCopy};
 use std::alloc::Global;
@@ -15,7 +16,8 @@ use std::collections::BTreeMap;
 use std::collections::btree_map::Iter;
 use std::marker::Model;
 
-/// An object, at the version that it was last shown with; 0 where it wasn't shown since its watch expired.
+/// An object, at the version that it was last shown with; 0 where it wasn't shown since its watch
+/// expired.
 #[derive(Drop)]
 pub struct Versioned<T> {
     pub version: u64,
@@ -31,8 +33,8 @@ pub enum Shown<T> {
     PassedOver { object: T },
 }
 
-/// Objects by key, each at a version, which contracts see as the list of its entries by ascending key.
-/// A look-up takes the logarithm of their number in comparisons of keys.
+/// Objects by key, each at a version, which contracts see as the list of its entries by ascending
+/// key. A look-up takes the logarithm of their number in comparisons of keys.
 pub struct VersionedMap<K: Ord, T> {
     alloc: Global,
     held: BTreeMap<K, Versioned<T>>,
@@ -111,9 +113,9 @@ impl<K: Ord, T> VersionedMap<K, T> {
 }
 
 impl<K: Ord + Drop, T: Drop> VersionedMap<K, T> {
-    /// An object is shown: it is held in place of what was there, unless its version isn't greater than the held one. A key
-    /// that isn't held counts as held at version 0, so an object at version 0 is never taken. After want of memory the map is
-    /// unchanged.
+    /// An object is shown: it is held in place of what was there, unless its version isn't greater
+    /// than the held one. A key that isn't held counts as held at version 0, so an object at
+    /// version 0 is never taken. Where memory ran out the map is unchanged.
     pub fn show(&mut self, key: K, version: u64, object: T) -> Result<Shown<T>, NoMemory>
         ensures note { IfOk result (λ note. note ≡ shown_note K.cmp self.old key version object) }
         ensures ok { OnOk result (self.new ≡ shown K.cmp self.old key version object) }
@@ -128,7 +130,8 @@ impl<K: Ord + Drop, T: Drop> VersionedMap<K, T> {
         })
     }
 
-    /// The object is held at this version, in place of what was there. After want of memory the map is unchanged.
+    /// The object is held at this version, in place of what was there. Where memory ran out the map
+    /// is unchanged.
     pub fn put(&mut self, key: K, version: u64, object: T) -> Result<(), NoMemory>
         ensures ok { OnOk result (
             self.new ≡ insert_entry K.cmp self.old key (record { version = version; object = object })) }
@@ -138,11 +141,12 @@ impl<K: Ord + Drop, T: Drop> VersionedMap<K, T> {
         Ok(())
     }
 
-    /// What is held under the key is changed by the function, and held at this version. Where nothing is held under it, nothing
-    /// changes. This takes no memory.
+    /// What is held under the key is changed by the function, and held at this version. Where
+    /// nothing is held under it, nothing changes. This takes no memory.
     pub fn amend<F: FnOnce(&mut T)>(&mut self, key: &K, version: u64, change: F)
         requires { F.IsAlwaysCallable change }
-        ensures { Amends (FnOnceReturnsAtMut F.FnOnce change) K.cmp key.now version self.old self.new }
+        ensures { Amends (FnOnceReturnsAtMut F.FnOnce change) K.cmp key.now version self.old
+            self.new }
     {
         let Some(held) = self.held.get_mut(key) else {
             return;
@@ -151,7 +155,8 @@ impl<K: Ord + Drop, T: Drop> VersionedMap<K, T> {
         held.version = version;
     }
 
-    /// Nothing is held under the key any more, whatever version it was held at. What was held is handed back.
+    /// Nothing is held under the key any more, whatever version it was held at. What was held is
+    /// handed back.
     pub fn remove(&mut self, key: &K) -> Option<T>
         ensures before { result ≡ object_at K.cmp self.old key.now }
         ensures map { self.new ≡ remove_entry (is_at (K.cmp key.now)) self.old }
@@ -159,8 +164,8 @@ impl<K: Ord + Drop, T: Drop> VersionedMap<K, T> {
         object_in(self.held.remove(key))
     }
 
-    /// The watch has expired: every object is held at version 0, so that whatever is shown of it is newer. This takes no
-    /// memory.
+    /// The watch has expired: every object is held at version 0, so that whatever is shown of it is
+    /// newer. This takes no memory.
     pub fn expire(&mut self)
         ensures { self.new ≡ expired self.old }
     {
@@ -170,7 +175,8 @@ impl<K: Ord + Drop, T: Drop> VersionedMap<K, T> {
         });
     }
 
-    /// The list has ended: what is held at version 0 wasn't listed, and is dropped. This takes no memory.
+    /// The list has ended: what is held at version 0 wasn't listed, and is dropped. This takes no
+    /// memory.
     pub fn drop_unlisted(&mut self)
         ensures { self.new ≡ listed self.old }
     {

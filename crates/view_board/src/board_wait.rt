@@ -11,7 +11,8 @@ use shown_board::Opened;
 use std::alloc::Global;
 use std::sync::Wait;
 
-/// The calls of a board that may wait. They wait for its responder alone, to leave the view that it reads, and a responder waits for nobody.
+/// The calls of a board that may wait. They wait for its responder alone, to leave the view that it
+/// reads, and a responder waits for nobody.
 ///
 /// What has them isn't a `Wait`: what is generic over it can wait for nothing else.
 pub trait BoardWait {
@@ -30,7 +31,8 @@ pub trait BoardWait {
     /// `BoardWriter::publish`.
     fn publish<J: Classed>(&self, writer: &mut BoardWriter<J>) -> Result<(), NoMemory>
         ensures { MatchResult result
-            (λ _. (writer.new.published ≡ writer.old.published ++ writer.old.pending) × (writer.new.pending ≡ []))
+            (λ _. (writer.new.published ≡ writer.old.published ++ writer.old.pending)
+            × (writer.new.pending ≡ []))
             (λ _. writer.new ≡ writer.old) };
 
     /// `BoardWriter::end`.

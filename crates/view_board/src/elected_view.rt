@@ -14,8 +14,8 @@ use speaker_view::{View, ViewChange};
 use std::alloc::{AllocError, Global};
 use std::marker::{Brand, Model, PhantomData};
 
-/// Which board it is, and the class of the services that its view announces (`spec.loadBalancerClass`), or those without one. Each call of a
-/// program picks both.
+/// Which board it is, and the class of the services that its view announces
+/// (`spec.loadBalancerClass`), or those without one. Each call of a program picks both.
 pub trait Classed: Naming {
     ghost use Rattle.std.specs.Prelude.{ℕ, List, Option};
 
@@ -28,7 +28,8 @@ impl Classed for Brand {
     ghost class = { None };
 }
 
-/// A view of the services of J's class, with who announces each address by it where that is known. Contracts see the view.
+/// A view of the services of J's class, with who announces each address by it where that is known.
+/// Contracts see the view.
 #[derive(Drop)]
 pub struct ElectedView<J: Classed> {
     alloc: Global,
@@ -108,8 +109,8 @@ impl<J: Classed> Follower<Event> for ElectedView<J> {
     }
 }
 
-/// The announcers by the view as it is after the change, if there is memory to know them: where they
-/// were known before it, those that it moves are elected alone.
+/// The announcers by the view as it is after the change, if there is memory to know them: where
+/// they were known before it, those that it moves are elected alone.
 fn renewed(
     alloc: Global,
     known: Option<Announcers>,

@@ -1,8 +1,12 @@
-//! The view of a speaker on a board: one thread applies events to it, while a responder on another thread answers frames by it with no lock and
-//! no wait.
+//! The view of a speaker on a board: one thread applies events to it, while a responder on another
+//! thread answers frames by it with no lock and no wait.
 //!
-//! Each answer is that of the view after a beginning of the appended events. A responder's beginnings never get shorter, and none is shorter
-//! than what it was told of.
+//! Each answer is that of the view after a beginning of the appended events. A responder's
+//! beginnings never get shorter, and none is shorter than what it was told of.
+//!
+//! The announcers stand by the published view, so an answer looks its address up. Where memory runs
+//! out for them the view is published all the same, and elections are held for each answer until an
+//! event finds memory.
 #![tactic(auto)]
 
 mod answer;

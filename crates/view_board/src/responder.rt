@@ -8,13 +8,15 @@ use crate::elected_view::{Classed, ElectedView};
 use kube_model::Event;
 use std::marker::Model;
 
-/// A beginning of the appended events, which contracts see as these events. It is a number when it runs, and may go to any thread.
+/// A beginning of the appended events, which contracts see as these events. It is a number when it
+/// runs, and may go to any thread.
 pub type Told<J> = shown_board::Beginning<Event, J>;
 
 /// An answer, with the number of the events by whose view it was given.
 pub type Reply = shown_board::Reply<Answer>;
 
-/// Answers frames. Contracts see the events that it has seen, and the longest list of events that it was told of.
+/// Answers frames. Contracts see the events that it has seen, and the longest list of events that
+/// it was told of.
 #[derive(Drop)]
 pub struct Responder<J: Classed> {
     responder: shown_board::Responder<ElectedView<J>, Event, J>,
@@ -52,9 +54,11 @@ impl<J: Classed> Responder<J> {
         self.responder.learn(told);
     }
 
-    /// The answer to the frame that the node's interface with this hardware address received, by the view after the events that are then seen:
-    /// that of ARP where there is one, else that of Neighbor Discovery, else silence. These events begin with all that were seen before, and
-    /// with all that it was told of. `None` is free: nothing is seen where the writer has ended. It takes no memory.
+    /// The answer to the frame that the node's interface with this hardware address received, by
+    /// the view after the events that are then seen: that of ARP where there is one, else that of
+    /// Neighbor Discovery, else silence. These events begin with all that were seen before, and
+    /// with all that it was told of. `None` is free: nothing is seen where the writer has ended. It
+    /// takes no memory.
     pub fn respond(
         &mut self,
         node: &str,
@@ -64,9 +68,12 @@ impl<J: Classed> Responder<J> {
     ) -> Option<Reply>
         ensures none { IfNone result (self.new ≡ self.old) }
         ensures told { self.new.told ≡ self.old.told }
-        ensures later { IfSome result (λ _. IsPrefix self.old.seen self.new.seen × IsPrefix self.old.told self.new.seen) }
+        ensures later { IfSome result (λ _. IsPrefix self.old.seen self.new.seen
+            × IsPrefix self.old.told self.new.seen) }
         ensures seen { IfSome result (λ reply. reply.seen ≡ length self.new.seen) }
-        ensures answer { IfSome result (λ reply. IsAnswer (view_after_all J.class self.new.seen) node.now interface.now mac.now frame.now reply.answer) }
+        ensures answer { IfSome result
+            (λ reply. IsAnswer (view_after_all J.class self.new.seen) node.now interface.now mac.now
+            frame.now reply.answer) }
     {
         self.responder.respond(&Asked {
             node,

@@ -11,11 +11,11 @@ use std::alloc::Global;
 use std::marker::Model;
 use std::sync::Wait;
 
-/// An event that wasn't appended, for want of memory.
+/// An event that wasn't appended, where memory ran out.
 pub type AppendBack = shown_board::AppendBack<Event>;
 
-/// Applies events to the view, and publishes it. Contracts see the events that are published and those that are pending. It is not `Drop`: end it
-/// by `end`.
+/// Applies events to the view, and publishes it. Contracts see the events that are published and
+/// those that are pending. It is not `Drop`: end it by `end`.
 pub struct BoardWriter<J: Classed> {
     writer: shown_board::BoardWriter<Posted<ElectedView<J>, Event, J>, Event, J>,
 }
@@ -29,7 +29,8 @@ impl<J: Classed> Model for BoardWriter<J> {
     ghost view = { λ b. b.writer };
 }
 
-/// A board of the view of nothing, for the services of this class, with one writer and one responder.
+/// A board of the view of nothing, for the services of this class, with one writer and one
+/// responder.
 pub fn board<J: Classed, R: Wait>(
     rt: &R,
     alloc: Global,
@@ -52,20 +53,24 @@ pub fn board<J: Classed, R: Wait>(
 }
 
 impl<J: Classed> BoardWriter<J> {
-    /// The event goes to the end of what is pending. For want of memory it comes back, and nothing changes; so it is behind 2^64 - 1 events.
+    /// The event goes to the end of what is pending. Where memory ran out it comes back, and
+    /// nothing changes; so it is behind 2^64 - 1 events.
     pub fn append(&mut self, event: Event) -> Result<(), AppendBack>
         ensures published { self.new.published ≡ self.old.published }
-        ensures pending { MatchResult result (λ _. self.new.pending ≡ self.old.pending ++ event ∷ [])
+        ensures pending { MatchResult result
+            (λ _. self.new.pending ≡ self.old.pending ++ event ∷ [])
             (λ back. (back.event ≡ event) × (self.new.pending ≡ self.old.pending)) }
     {
         self.writer.append(event)
     }
 
-    /// Publishes all that is pending, at one step. Where memory is wanting nothing changes, as after an event that passes a limit of the view,
-    /// which each publication to come refuses: whoever appends events asks a view of its own first.
+    /// Publishes all that is pending, at one step. Where memory is wanting nothing changes, as
+    /// after an event that passes a limit of the view, which each publication to come refuses:
+    /// whoever appends events asks a view of its own first.
     pub fn publish<R: Wait>(&mut self, rt: &R) -> Result<(), NoMemory>
         ensures { MatchResult result
-            (λ _. (self.new.published ≡ self.old.published ++ self.old.pending) × (self.new.pending ≡ []))
+            (λ _. (self.new.published ≡ self.old.published ++ self.old.pending)
+            × (self.new.pending ≡ []))
             (λ _. self.new ≡ self.old) }
     {
         self.writer.publish(rt)?;

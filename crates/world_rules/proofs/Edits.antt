@@ -172,10 +172,10 @@ module _ (w : WorldValue) (s : State) (key : Key) where
   deleted-tracked kinds.Slice gone sorted t = other-deleted kinds.Slice gone sorted refl refl t
 
 -- ---- what an edit has shown
-deleted-of : (kind : Kind) (gone : Key) (store : StoreValue) → AllByRecursion (IsOfGroup (group_of kind)) (shown_edit (Delete kind gone) store)
+pub deleted-of : (kind : Kind) (gone : Key) (store : StoreValue) → AllByRecursion (IsOfGroup (group_of kind)) (shown_edit (Delete kind gone) store)
 deleted-of kind gone store = all-either (is_some (stored_at store.objects (kind, gone))) (IsOfGroup (group_of kind)) (Deleted kind gone ∷ []) [] (refl, tt) tt
 
-set-of : (object : Object) (holding : Record) (store : StoreValue)
+pub set-of : (object : Object) (holding : Record) (store : StoreValue)
     → AllByRecursion (IsOfGroup (group_of (kind_of object))) (as_shown (stored_with store object holding) ∷ [])
 set-of object holding store = (ap (λ (p : Place). group_of p.0) (place_of-with_record holding object), tt)
 

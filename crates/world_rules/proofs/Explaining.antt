@@ -36,7 +36,7 @@ use Rattle.world_rules.proofs.Landing.{none-expected}
 use Rattle.world_rules.specs.Safe.{IsSafe}
 use Rattle.world_rules.specs.World.{WorldValue, told, turned, after_turning}
 
--- ---- the same run, without what is passed over
+-- ---- the same run, without what is ignored
 abbrev pub normal_shown : ListGroup → Event → List TranscriptEntry
 normal_shown groups.Config event = Took event ∷ []
 normal_shown groups.Service event = Took event ∷ []
@@ -141,7 +141,7 @@ idle-same s none idle =
     ∙ ap (λ (o : Option Put). record s { queue = s.queue; out = o }) out
 
 module _ (class : Option (List ℕ)) where
-  -- a run, and the core behind it
+  -- a run, and the core after it
   abbrev pub LeadsTo : List TranscriptEntry → State → Type 0
   LeadsTo run s = IsRun class run × (core_after class run ≡ s)
 
@@ -304,7 +304,7 @@ module _ (class : Option (List ℕ)) where
   none-out : (run : List TranscriptEntry) → IsRun class run → (core_after class run).out ≡ None → put_out run ≡ None
   none-out run is none = sym (core_holds_what_was_observed class run is).1 ∙ none
 
-  -- no put is out
+  -- no put is in flight
   quiescent : (w : WorldValue) (along run : List TranscriptEntry) → w.core ≡ Some (core_after class run) → puts_of along ≡ puts_of run → answered run ≡ run
       → IsSafe w.store → put_out run ≡ None
       → IsExplained class w along run
@@ -317,12 +317,12 @@ module _ (class : Option (List ℕ)) where
         last = λ put out outcome. (let no : Some put ≡ None = sym out ∙ none in absurd (cc no));
       }
 
-  -- the store behind a turn that wants a put
+  -- the store after a turn that wants a put
   turned-store : (c : Option State) (s : State) (put : Put) (outcome : Outcome) (w : WorldValue) → c ≡ Some s → put_in (core_turn s) ≡ Some put
       → (after_turning c outcome w).store ≡ after_put put outcome w.store
   turned-store c s put outcome w up wants = rw (up, wants) refl
 
-  -- a put is out
+  -- a put is in flight
   about-put : (w : WorldValue) (along earlier : List TranscriptEntry) (put : Put) → w.core ≡ Some (core_after class earlier) → puts_of along ≡ puts_of earlier
       → IsGood w
       → (turn : Turn) → turn ≡ core_turn (core_after class earlier) → put_in turn ≡ Some put → answered (Turned turn ∷ earlier) ≡ earlier
@@ -352,7 +352,7 @@ module _ (class : Option (List ℕ)) where
   explains w along (Turned (Wants put pending) ∷ earlier) is core puts good = about-put w along earlier put core puts good (Wants put pending) is.0.1 refl refl
   explains w along (Heard reply ∷ earlier) is core puts good = quiescent w along (Heard reply ∷ earlier) core puts refl good.stored.safe refl
 
--- ---- what was shown had terms, and has them without what is passed over
+-- ---- what was shown had terms, and has them without what is ignored
 terms-event : (event : Event) (more : List TranscriptEntry) → AllShowTerms (Took event ∷ more) → AllShowTerms (normal_event event ++ more)
 terms-event (Changed version (objects.Service service)) more all = all
 terms-event (Changed version (objects.Pool pool)) more all = all

@@ -501,7 +501,7 @@ replied-expected s q h held replies.Unknown p apart e = (
       (added-grows q.key q.holding (put_terms s.held q) (claims_of p.key s.claims)) (e.2 given)),
 )
 
--- one that can land behind its own coming, wasn't made
+-- one that can land after its own coming, wasn't made
 unmade_by : (b : Bool) (q : Put) (found : Option Stored) (store : StoreValue) → stored_at store.objects (service_at q.key) ≡ found
     → (b ≡ true → is_some found ≡ true) → q.version ≤ store.counter → CanLand (with_made b q found store) q → b ≡ false
 unmade_by false q found store is there le can = refl

@@ -70,7 +70,7 @@ once-here false (Shows x) more once = once
 once-here false Gone more once = once
 once-here false End more once = absurd once
 
--- behind other notices
+-- after other notices
 once-later : (ended : Bool) (before : List Notice) (n : Notice) (more : List Notice) → EndsOnce ended (before ++ End ∷ n ∷ more)
     → EndsOnce ended (before ++ n ∷ End ∷ more)
 once-later ended [] n more once = once-here ended n more once
@@ -81,7 +81,7 @@ once-later false (Gone ∷ before) n more once = once-later false before n more 
 once-later true (End ∷ before) n more once = absurd once
 once-later false (End ∷ before) n more once = once-later true before n more once
 
--- behind the end there is no other
+-- after the end there is no other
 once-behind : (ended : Bool) (before later : List Notice) → EndsOnce ended (before ++ End ∷ later) → EndsOnce true later
 once-behind true [] later once = absurd once
 once-behind false [] later once = once
@@ -176,7 +176,7 @@ module _ (before : List Event) (event : Event) (behind : List Event) where
       (notices_in key before) (notices_in key behind)
       (tracked-as _ _ _ _ refl refl refl (sym (ap (notices_in key) is ∙ notices_in-append key before (ListEnd groups.Service ∷ event ∷ behind))) t))
 
-  of-late : AllByRecursion (IsOfGroup groups.Service) soon → AllByRecursion (IsOfGroup groups.Service) late
+  pub of-late : AllByRecursion (IsOfGroup groups.Service) soon → AllByRecursion (IsOfGroup groups.Service) late
   of-late all =
       let rest = all-behind (IsOfGroup groups.Service) before (ListEnd groups.Service ∷ event ∷ behind) all in
       all-append (IsOfGroup groups.Service) before (event ∷ ListEnd groups.Service ∷ behind)

@@ -19,5 +19,6 @@ pub mod Own
 pub mod Explaining
 pub mod Chains
 pub mod Outside
+pub mod Unheld
 pub mod Themselves
 pub mod Bare

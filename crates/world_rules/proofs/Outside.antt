@@ -1,5 +1,5 @@
 -- What is seen in a world without a core is explained by one with a core.
-use Rattle.std.proofs.Common.{◌≡◌, ℕ, true, List, [], ◌∷◌, ◌++◌, drop, Option, Some, None, is_some, inl, inr, refl, sym, ap, subst, ◌∙◌}
+use Rattle.std.proofs.Common.{◌≡◌, ℕ, true, List, [], ◌∷◌, ◌++◌, take, drop, Option, Some, None, is_some, inl, inr, refl, sym, ap, subst, ◌∙◌}
 use Rattle.std.proofs.lemmas.Bool.{true≢false, and_parts}
 use Rattle.std.specs.List.{AllByRecursion}
 use Rattle.kube_model.specs.declared.event.Event.{Event}
@@ -17,32 +17,40 @@ use Rattle.sharing_terms.specs.Marked.{IsMarkOf}
 use Rattle.sharing_terms.specs.Spelled.{recorded_terms}
 use Rattle.sharing_terms.proofs.ReadBack.{recorded-exact}
 use Rattle.world_rules.specs.Tracked.{is_given}
-use Rattle.kube_model.specs.declared.service.Service.{Service}
 use Rattle.status_store.specs.declared.change.Outcome.{Outcome}
 use Rattle.status_store.specs.declared.change.Outcome.TheVariants.{Delivered, Lost}
+use Rattle.status_store.specs.declared.change.Edit.TheVariants.{Delete}
 use Rattle.status_store.specs.Changes.{StoreValue, after_put, reply_to}
 use Rattle.core_rules.specs.declared.turn.Turn.{Turn}
 use Rattle.core_rules.specs.declared.turn.Turn.TheVariants.{Idle, NoPut, Wants}
 use Rattle.core_rules.specs.Core.{State}
-use Rattle.core_rules.specs.Take.{core_take, shows}
+use Rattle.core_rules.specs.Take.{core_take}
 use Rattle.core_laws.specs.Shared.{AllShowTerms}
+use Rattle.core_rules.proofs.Runs.{core_holds_what_was_observed}
+use Rattle.core_laws.proofs.Orderly.{sorted-services}
+use Rattle.mlb_base.proofs.Lists.{all-append}
+use Rattle.kube_model.specs.Kinds.{kind_of, group_of}
 use Rattle.core_rules.specs.Turn.{core_turn, after_turn, put_in}
 use Rattle.core_rules.specs.Replied.{core_reply}
-use Rattle.core_rules.specs.Run.{TranscriptEntry, Took, Expired, Turned, Heard, core_after, put_out, IsRun}
+use Rattle.core_rules.specs.Run.{TranscriptEntry, Took, Expired, Turned, Heard, core_after, observed, put_out, IsRun}
 use Rattle.world_rules.specs.Chain.{late_along}
-use Rattle.world_rules.specs.Good.{IsGoodStore}
+use Rattle.world_rules.specs.Good.{IsGoodStore, IsOfGroup}
 use Rattle.world_rules.specs.Safe.{IsSafe}
 use Rattle.world_rules.specs.Explaining.{Act, ListExpired, Decided, Answered as AnsweredBy}
 use Rattle.world_rules.specs.Explaining.{acts_of, acts_of_event, answered, IsRunning}
 use Rattle.world_rules.specs.Moves.{Move, Sets, Deletes, Tells, Takes, Turns, ConfigExpires, ServicesExpire, EndsLater, Lands}
-use Rattle.world_rules.specs.Moves.{IsMove, IsListOf, IsOld, AreMoves, after_move, after_moves, entries_of, entries_put, entries_taken, run_along, begun, under_way, given_up}
+use Rattle.world_rules.specs.Moves.{IsMove, IsListOf, IsOld, AreMoves, after_move, after_moves, stored_with, entries_of, entries_put, entries_taken, run_along, begun, under_way, given_up}
 use Rattle.world_rules.specs.Outside.{Outside, Happening, SetBy, DeletedBy, ReadsConfig, Reads, ReadsAgain, Writes, ConfigRunsOut, ServicesRunOut, EndComesLater, LandsLate}
 use Rattle.world_rules.specs.Outside.{after_happening, MayHappen, outside_after, MayAllHappen, Seen, Read, RanOut, Wrote, Answered, read_first}
-use Rattle.world_rules.specs.Outside.{seen_in, seen_by, seen_entry, seen_of, wrote, last_read, AreSafeSince, IsSafeBehind, SeenAreExplained, SeenAreSafe}
-use Rattle.world_rules.specs.World.{WorldValue, turned, told, untold}
-use Rattle.world_rules.proofs.Again.{KeepsLast, AreCountedIn, read-last, told-last, answered-last, counted-set, counted-deleted, counted-put}
+use Rattle.world_rules.specs.Outside.{seen_in, seen_by, seen_entry, seen_of, wrote, AreSafeSince, IsSafeBehind, SeenAreExplained, SeenAreSafe}
+use Rattle.world_rules.specs.World.{WorldValue, as_shown, shown_edit, shown_put, to_lane, turned, told, untold}
+use Rattle.world_rules.proofs.Again.{KeepsLast, AreCountedIn, read-again, read-last, told-last, answered-last, counted-set, counted-deleted, counted-put}
+use Rattle.world_rules.proofs.Edits.{deleted-of, set-of}
 use Rattle.world_rules.proofs.Explaining.{normal_event, normal, normal-leads, answered-run, terms-normal, terms-answered, runs_are_safe_in_worlds}
 use Rattle.world_rules.proofs.Landing.{none-expected}
+use Rattle.world_rules.proofs.Lanes.{of-lane, of-list}
+use Rattle.world_rules.proofs.Later.{of-late}
+use Rattle.world_rules.proofs.Turns.{put-of}
 use Rattle.world_rules.proofs.Worlds.{starts_are_good, good-moves}
 
 -- ---- lists of moves with one more
@@ -69,7 +77,7 @@ running-more : (moves : List Move) (move : Move) → AllByRecursion IsRunning mo
 running-more [] move all one = (one, tt)
 running-more (first ∷ moves) move all one = (all.0, running-more moves move all.1 one)
 
--- ---- what is seen of a run, without what is passed over
+-- ---- what is seen of a run, without what is ignored
 abbrev seen_one : TranscriptEntry → List Seen
 seen_one (Took event) = Read event ∷ []
 seen_one (Expired group) = RanOut group ∷ []
@@ -164,7 +172,10 @@ given_by holding X f has =
     let parts = and_parts (is_assigned holding) (is_some (recorded_terms holding.mark)) has in
     given_of holding (recorded_terms holding.mark) X refl parts.1 (f parts.0)
 
-module _ (class : Option (List ℕ)) (store : StoreValue) (list : List Event) (counted : AreCountedIn store) where
+abbrev AreOfServices : List Event → Type 0
+AreOfServices events = AllByRecursion (IsOfGroup groups.Service) events
+
+module _ (class : Option (List ℕ)) (store : StoreValue) (list : List Event) (counted : AreCountedIn store) (services : AreOfServices list) where
   abbrev w0 : WorldValue
   w0 = begun class store list
 
@@ -234,10 +245,11 @@ module _ (class : Option (List ℕ)) (store : StoreValue) (list : List Event) (c
       ∙ ap (λ (r : PutReply). Heard r ∷ Turned (core_turn s) ∷ n) replied ∙ ap (λ (t : Turn). Heard reply ∷ Turned t ∷ n) (sym is.0.1))
       (subst (λ (r : PutReply). KeepsLast o.last (core_reply (after_turn s) r)) replied (answered-last s put outcome o.store o.last wanted counted m.again))
 
-  read : (o : Outside) (event : Event) (rest : List Event) (n : List TranscriptEntry) → o.lane ≡ event ∷ rest → Matches o n
-      → Matches (after_happening Reads o) (Took event ∷ n)
-  read o event rest n lane m =
+  read : (o : Outside) (event : Event) (rest : List Event) (n : List TranscriptEntry) → o.lane ≡ event ∷ rest → IsOfGroup groups.Service event → IsRun class n
+      → Matches o n → Matches (after_happening Reads o) (Took event ∷ n)
+  read o event rest n lane of is m =
       let s = core_after class n in
+      let sorted = sorted-services s (observed n) (core_holds_what_was_observed class n is).0 in
       more o (after_happening Reads o) n (Took event ∷ n) m Takes m.config tt tt
       (ap (λ (l : List Event). (let v : WorldValue = record {
         class = class;
@@ -246,10 +258,10 @@ module _ (class : Option (List ℕ)) (store : StoreValue) (list : List Event) (c
         service_lane = untold (Some s) l;
         core = told (Some s) l;
       } in v)) lane
-      ∙ sym (ap (λ (l : List Event). (let q : Outside = record { store = o.store; lane = drop 1 l; last = last_read l o.last; late = o.late } in view m.config q (core_take s event)))
+      ∙ sym (ap (λ (l : List Event). (let q : Outside = record { store = o.store; lane = drop 1 l; last = take 1 l; late = o.late } in view m.config q (core_take s event)))
       lane)) refl
       (ap (λ (l : List Event). entries_taken (Some s) l ++ n) lane)
-      (subst (λ (l : List Event). KeepsLast (last_read l o.last) (core_take s event)) (sym lane) (read-last s event))
+      (subst (λ (l : List Event). KeepsLast (take 1 l) (core_take s event)) (sym lane) (read-last s sorted event of))
 
   read-none : (o : Outside) (n : List TranscriptEntry) → o.lane ≡ [] → Matches o n → Matches (after_happening Reads o) n
   read-none o n lane m =
@@ -262,9 +274,9 @@ module _ (class : Option (List ℕ)) (store : StoreValue) (list : List Event) (c
         service_lane = untold (Some s) l;
         core = told (Some s) l;
       } in v)) lane
-      ∙ sym (ap (λ (l : List Event). (let q : Outside = record { store = o.store; lane = drop 1 l; last = last_read l o.last; late = o.late } in view m.config q s)) lane)) refl
+      ∙ sym (ap (λ (l : List Event). (let q : Outside = record { store = o.store; lane = drop 1 l; last = take 1 l; late = o.late } in view m.config q s)) lane)) refl
       (ap (λ (l : List Event). entries_taken (Some s) l ++ n) lane)
-      (subst (λ (l : List Event). KeepsLast (last_read l o.last) s) (sym lane) m.again)
+      (subst (λ (l : List Event). KeepsLast (take 1 l) s) (sym lane) tt)
 
   -- ---- turns without a put are peeled off
   peel : (x : Seen) (rest : List Seen) (Goal : List TranscriptEntry → Type 0)
@@ -292,7 +304,7 @@ module _ (class : Option (List ℕ)) (store : StoreValue) (list : List Event) (c
       here (Heard reply) n (ap (λ (y : Seen). y ∷ []) (sym head)) is tail
 
   begins : (n : List TranscriptEntry) → IsRun class n → [] ≡ seen_each n → Matches (at []) n
-  begins [] is e = record { moves = []; config = []; running = tt; may = tt; is = refl; late = refl; along = refl; again = λ version service none. absurd (cc) }
+  begins [] is e = record { moves = []; config = []; running = tt; may = tt; is = refl; late = refl; along = refl; again = tt }
   begins (Took event ∷ n) is e = absurd (cc)
   begins (Expired group ∷ n) is e = absurd (cc)
   begins (Turned Idle ∷ n) is e = silent (at []) Idle n refl is (begins n is.1 e)
@@ -319,36 +331,36 @@ module _ (class : Option (List ℕ)) (store : StoreValue) (list : List Event) (c
   config-read earlier event may follows (Turned (Wants put pending)) n e is rest = absurd (cc)
   config-read earlier event may follows (Heard reply) n e is rest = absurd (cc)
 
-  service-read : (earlier : List Happening) (event : Event) (behind : List Event) → (at earlier).lane ≡ event ∷ behind → Follows earlier
-      → (entry : TranscriptEntry) (n : List TranscriptEntry) → seen_one entry ≡ Read event ∷ [] → IsRun class (entry ∷ n) → seen_in store list earlier ≡ seen_each n
+  service-read : (earlier : List Happening) (event : Event) (behind : List Event) → (at earlier).lane ≡ event ∷ behind → IsOfGroup groups.Service event
+      → Follows earlier → (entry : TranscriptEntry) (n : List TranscriptEntry) → seen_one entry ≡ Read event ∷ [] → IsRun class (entry ∷ n) → seen_in store list earlier ≡ seen_each n
       → Matches (at (Reads ∷ earlier)) (entry ∷ n)
-  service-read earlier event behind lane follows (Took taken) n e is rest =
+  service-read earlier event behind lane of follows (Took taken) n e is rest =
       let same : event ≡ taken = cc in
-      subst (λ (x : Event). Matches (at (Reads ∷ earlier)) (Took x ∷ n)) same (read (at earlier) event behind n lane (follows n is.1 rest))
-  service-read earlier event behind lane follows (Expired group) n e is rest = absurd (cc)
-  service-read earlier event behind lane follows (Turned Idle) n e is rest = absurd (cc)
-  service-read earlier event behind lane follows (Turned (NoPut key pending)) n e is rest = absurd (cc)
-  service-read earlier event behind lane follows (Turned (Wants put pending)) n e is rest = absurd (cc)
-  service-read earlier event behind lane follows (Heard reply) n e is rest = absurd (cc)
+      subst (λ (x : Event). Matches (at (Reads ∷ earlier)) (Took x ∷ n)) same (read (at earlier) event behind n lane of is.1 (follows n is.1 rest))
+  service-read earlier event behind lane of follows (Expired group) n e is rest = absurd (cc)
+  service-read earlier event behind lane of follows (Turned Idle) n e is rest = absurd (cc)
+  service-read earlier event behind lane of follows (Turned (NoPut key pending)) n e is rest = absurd (cc)
+  service-read earlier event behind lane of follows (Turned (Wants put pending)) n e is rest = absurd (cc)
+  service-read earlier event behind lane of follows (Heard reply) n e is rest = absurd (cc)
 
   -- a service once more
-  again-read : (earlier : List Happening) (version : ℕ) (service : Service) → (at earlier).last ≡ Some (shows version service) → Follows earlier
-      → (entry : TranscriptEntry) (n : List TranscriptEntry) → seen_one entry ≡ Read (shows version service) ∷ [] → IsRun class (entry ∷ n)
-      → seen_in store list earlier ≡ seen_each n → Matches (at (ReadsAgain version service ∷ earlier)) (entry ∷ n)
-  again-read earlier version service last follows (Took taken) n e is rest =
-      let same : shows version service ≡ taken = cc in
+  again-read : (earlier : List Happening) (event : Event) (more_read : List Event) → (at earlier).last ≡ event ∷ more_read → Follows earlier
+      → (entry : TranscriptEntry) (n : List TranscriptEntry) → seen_one entry ≡ Read event ∷ [] → IsRun class (entry ∷ n)
+      → seen_in store list earlier ≡ seen_each n → Matches (at (ReadsAgain ∷ earlier)) (entry ∷ n)
+  again-read earlier event more_read last follows (Took taken) n e is rest =
+      let same : event ≡ taken = cc in
       let m = follows n is.1 rest in
       let s = core_after class n in
-      let event = shows version service in
-      let old : IsOld event (Some s) = (version, service, refl, m.again version service last) in
+      let kept = (subst (λ (l : List Event). KeepsLast l s) last m.again).0 in
+      let old : IsOld event (Some s) = read-again class n is.1 event kept.0 kept.1 in
       subst (λ (x : Event). Matches (at earlier) (Took x ∷ n)) same
       (more (at earlier) (at earlier) n (Took event ∷ n) m (Tells event) m.config tt (inr old) refl refl refl
       (told-last s event (at earlier).last (inr old) m.again))
-  again-read earlier version service last follows (Expired group) n e is rest = absurd (cc)
-  again-read earlier version service last follows (Turned Idle) n e is rest = absurd (cc)
-  again-read earlier version service last follows (Turned (NoPut key pending)) n e is rest = absurd (cc)
-  again-read earlier version service last follows (Turned (Wants put pending)) n e is rest = absurd (cc)
-  again-read earlier version service last follows (Heard reply) n e is rest = absurd (cc)
+  again-read earlier event more_read last follows (Expired group) n e is rest = absurd (cc)
+  again-read earlier event more_read last follows (Turned Idle) n e is rest = absurd (cc)
+  again-read earlier event more_read last follows (Turned (NoPut key pending)) n e is rest = absurd (cc)
+  again-read earlier event more_read last follows (Turned (Wants put pending)) n e is rest = absurd (cc)
+  again-read earlier event more_read last follows (Heard reply) n e is rest = absurd (cc)
 
   config-out : (earlier : List Happening) → Follows earlier → (entry : TranscriptEntry) (n : List TranscriptEntry) → seen_one entry ≡ RanOut groups.Config ∷ []
       → IsRun class (entry ∷ n) → seen_in store list earlier ≡ seen_each n → Matches (at (ConfigRunsOut ∷ earlier)) (entry ∷ n)
@@ -371,7 +383,7 @@ module _ (class : Option (List ℕ)) (store : StoreValue) (list : List Event) (c
       let same : groups.Service ≡ group = cc in
       let m = follows n is.1 rest in
       subst (λ (x : ListGroup). Matches (at (ServicesRunOut anew ∷ earlier)) (Expired x ∷ n)) same
-      (more (at earlier) (at (ServicesRunOut anew ∷ earlier)) n (Expired groups.Service ∷ n) m (ServicesExpire anew) m.config tt may refl refl refl (λ version service none. absurd (cc)))
+      (more (at earlier) (at (ServicesRunOut anew ∷ earlier)) n (Expired groups.Service ∷ n) m (ServicesExpire anew) m.config tt may refl refl refl tt)
   services-out earlier anew may follows (Turned Idle) n e is rest = absurd (cc)
   services-out earlier anew may follows (Turned (NoPut key pending)) n e is rest = absurd (cc)
   services-out earlier anew may follows (Turned (Wants put pending)) n e is rest = absurd (cc)
@@ -409,12 +421,50 @@ module _ (class : Option (List ℕ)) (store : StoreValue) (list : List Event) (c
       written-before earlier put outcome counted follows reply same n is rest
 
   -- the next event of the services, if one is there
-  reads_by : (earlier : List Happening) (lane : List Event) → (at earlier).lane ≡ lane → Follows earlier → (n : List TranscriptEntry) → IsRun class n
-      → read_first lane ++ seen_in store list earlier ≡ seen_each n → Matches (at (Reads ∷ earlier)) n
-  reads_by earlier [] lane follows n is e = read-none (at earlier) n lane (follows n is e)
-  reads_by earlier (event ∷ behind) lane follows n is e =
+  reads_by : (earlier : List Happening) (lane : List Event) → (at earlier).lane ≡ lane → AreOfServices lane → Follows earlier
+      → (n : List TranscriptEntry) → IsRun class n → read_first lane ++ seen_in store list earlier ≡ seen_each n → Matches (at (Reads ∷ earlier)) n
+  reads_by earlier [] lane of follows n is e = read-none (at earlier) n lane (follows n is e)
+  reads_by earlier (event ∷ behind) lane of follows n is e =
       peel (Read event) (seen_in store list earlier) (Matches (at (Reads ∷ earlier))) (silent (at (Reads ∷ earlier)))
-      (service-read earlier event behind lane follows) n is e
+      (service-read earlier event behind lane of.0 follows) n is e
+
+  -- the one that was read last, if one was
+  again_by : (earlier : List Happening) (last : List Event) → (at earlier).last ≡ last → Follows earlier → (n : List TranscriptEntry) → IsRun class n
+      → read_first last ++ seen_in store list earlier ≡ seen_each n → Matches (at (ReadsAgain ∷ earlier)) n
+  again_by earlier [] last follows n is e = follows n is e
+  again_by earlier (event ∷ more_read) last follows n is e =
+      peel (Read event) (seen_in store list earlier) (Matches (at (ReadsAgain ∷ earlier))) (silent (at (ReadsAgain ∷ earlier)))
+      (again-read earlier event more_read last follows) n is e
+
+  all-drop : (lane : List Event) → AreOfServices lane → AreOfServices (drop 1 lane)
+  all-drop [] of = tt
+  all-drop (event ∷ behind) of = of.1
+
+  -- what is going to be read is of the services
+  lane-of : (happenings : List Happening) → MayAllHappen store list happenings → AreOfServices (at happenings).lane
+  lane-of [] may = services
+  lane-of (SetBy object holding ∷ earlier) may =
+      let now = (at earlier).store in
+      let shown : List Event = as_shown (stored_with now object holding) ∷ [] in
+      all-append (IsOfGroup groups.Service) (at earlier).lane (to_lane groups.Service (group_of (kind_of object)) shown) (lane-of earlier may.1)
+      (of-lane groups.Service (group_of (kind_of object)) shown (set-of object holding now))
+  lane-of (DeletedBy kind key ∷ earlier) may =
+      let shown = shown_edit (Delete kind key) (at earlier).store in
+      all-append (IsOfGroup groups.Service) (at earlier).lane (to_lane groups.Service (group_of kind) shown) (lane-of earlier may.1)
+      (of-lane groups.Service (group_of kind) shown (deleted-of kind key (at earlier).store))
+  lane-of (ReadsConfig event ∷ earlier) may = lane-of earlier may.1
+  lane-of (Reads ∷ earlier) may = all-drop (at earlier).lane (lane-of earlier may.1)
+  lane-of (ReadsAgain ∷ earlier) may = lane-of earlier may.1
+  lane-of (Writes put outcome ∷ earlier) may =
+      all-append (IsOfGroup groups.Service) (at earlier).lane (shown_put put outcome (at earlier).store) (lane-of earlier may.1)
+      (put-of put outcome (at earlier).store)
+  lane-of (ConfigRunsOut ∷ earlier) may = lane-of earlier may.1
+  lane-of (ServicesRunOut anew ∷ earlier) may = of-list (at earlier).store anew may.0
+  lane-of (EndComesLater before event behind ∷ earlier) may =
+      of-late before event behind (subst AreOfServices may.0 (lane-of earlier may.1))
+  lane-of (LandsLate put ∷ earlier) may =
+      all-append (IsOfGroup groups.Service) (at earlier).lane (shown_put put (Lost true) (at earlier).store) (lane-of earlier may.1)
+      (put-of put (Lost true) (at earlier).store)
 
   -- stored versions are none past the counter
   counted-at : (happenings : List Happening) → AreCountedIn (at happenings).store
@@ -423,7 +473,7 @@ module _ (class : Option (List ℕ)) (store : StoreValue) (list : List Event) (c
   counted-at (DeletedBy kind key ∷ earlier) = counted-deleted (at earlier).store kind key (counted-at earlier)
   counted-at (ReadsConfig event ∷ earlier) = counted-at earlier
   counted-at (Reads ∷ earlier) = counted-at earlier
-  counted-at (ReadsAgain version service ∷ earlier) = counted-at earlier
+  counted-at (ReadsAgain ∷ earlier) = counted-at earlier
   counted-at (Writes put outcome ∷ earlier) = counted-put put outcome (at earlier).store (counted-at earlier)
   counted-at (ConfigRunsOut ∷ earlier) = counted-at earlier
   counted-at (ServicesRunOut anew ∷ earlier) = counted-at earlier
@@ -441,10 +491,8 @@ module _ (class : Option (List ℕ)) (store : StoreValue) (list : List Event) (c
   follow (ReadsConfig event ∷ earlier) may n is e =
       peel (Read event) (seen_in store list earlier) (Matches (at (ReadsConfig event ∷ earlier))) (silent (at (ReadsConfig event ∷ earlier)))
       (config-read earlier event may.0 (follow earlier may.1)) n is e
-  follow (Reads ∷ earlier) may n is e = reads_by earlier (at earlier).lane refl (follow earlier may.1) n is e
-  follow (ReadsAgain version service ∷ earlier) may n is e =
-      peel (Read (shows version service)) (seen_in store list earlier) (Matches (at (ReadsAgain version service ∷ earlier)))
-      (silent (at (ReadsAgain version service ∷ earlier))) (again-read earlier version service may.0 (follow earlier may.1)) n is e
+  follow (Reads ∷ earlier) may n is e = reads_by earlier (at earlier).lane refl (lane-of earlier may.1) (follow earlier may.1) n is e
+  follow (ReadsAgain ∷ earlier) may n is e = again_by earlier (at earlier).last refl (follow earlier may.1) n is e
   follow (Writes put outcome ∷ earlier) may n is e =
       peel (Answered (reply_to put outcome (at earlier).store)) (Wrote put ∷ seen_in store list earlier) (Matches (at (Writes put outcome ∷ earlier)))
       (silent (at (Writes put outcome ∷ earlier))) (answered-so earlier put outcome (counted-at earlier) (follow earlier may.1)) n is e
@@ -506,7 +554,7 @@ module _ (class : Option (List ℕ)) (store : StoreValue) (list : List Event) (c
 pub seen_are_explained : SeenAreExplained
 seen_are_explained class store list happenings run is seen =
     let n = normal (answered run) in
-    let m = follow class store list seen.good.kept.counted happenings seen.may n (normal-leads class (answered run) (answered-run class run is)).0
+    let m = follow class store list seen.good.kept.counted (of-list store list seen.listed) happenings seen.may n (normal-leads class (answered run) (answered-run class run is)).0
     (seen.same ∙ sym (seen-normal (answered run))) in
     record {
       moves = m.moves;
@@ -530,7 +578,7 @@ seen_are_safe class run is typed store list happenings seen =
     let n = normal (answered run) in
     let explained = seen_are_explained class store list happenings run is seen in
     let known = (runs_are_safe_in_worlds class run is typed store list explained.moves explained.explains).0 in (
-      safe-since class store list seen.good.kept.counted seen.good seen.listed happenings seen.may n
+      safe-since class store list seen.good.kept.counted (of-list store list seen.listed) seen.good seen.listed happenings seen.may n
           (normal-leads class (answered run) (answered-run class run is)).0 (terms-normal (answered run) (terms-answered run typed))
           (seen.same ∙ sym (seen-normal (answered run))),
       subst (IsSafeBehind (put_out run)) explained.leads

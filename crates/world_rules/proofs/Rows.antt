@@ -139,7 +139,7 @@ below-shown h y v a b = pick (leb y.version (version_at h))
     pick true = a
     pick false = b
 
--- a notice that is newer than what is held, or stands behind a deletion, shows what is stored; or a deletion stands behind it
+-- a notice that is newer than what is held, or stands after a deletion, shows what is stored; or a deletion stands after it
 pub live-carried : (before behind : List Notice) (low n : ℕ) (s h : Option Shown) (x : Shown) → Follows s h (before ++ Shows x ∷ behind)
     → AreGiven low n (before ++ Shows x ∷ behind)
     → (version_at h < x.version) ⊎ (has_gone before ≡ true) → IsCarried s x.holding behind
@@ -222,7 +222,7 @@ claimed-or-listed (Gone ∷ more) x h claims has ends f w = absurd (bare-unassig
 claimed-or-listed (End ∷ more) x h claims has ends f w = inl (w has)
 
 -- ---- what is stored is held, or going to be shown
--- It is pending at this version, and no deletion behind it.
+-- It is pending at this version, and no deletion after it.
 pub record IsComing (notices : List Notice) (version : ℕ) : Type 0 where
   pub x : Shown
   pub behind : List Notice

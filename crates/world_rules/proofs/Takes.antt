@@ -32,11 +32,41 @@ use Rattle.core_laws.proofs.Orderly.{sorted-services}
 use Rattle.world_rules.specs.Tracked.{Shown, Notice, Shows, Gone, End, version_at, is_unlisted, EndsOnce, MatchesClaims, IsTracked}
 use Rattle.world_rules.specs.World.{WorldValue, told, untold, after_take}
 use Rattle.world_rules.specs.Moves.{Tells, IsOld, entries_taken, after_move}
-use Rattle.world_rules.proofs.Following.{leb-older}
 use Rattle.world_rules.specs.Good.{held_as, stored_of, held_of, notices_in, notices_of, IsTrackedIn, IsOfGroup, IsFollowed, IsGood}
 use Rattle.world_rules.proofs.Tracking.{tracked-newer, tracked-older, tracked-gone, tracked-end}
 use Rattle.world_rules.proofs.Lanes.{tracked-as, here-same}
 use Rattle.sharing_terms.specs.declared.terms.Terms.{Terms}
+
+-- ---- events of the list of services
+module _ (P : Event → Type 0) (shown : (version : ℕ) (service : Service) → P (shows version service)) (gone : (key : Key) → P (Deleted kinds.Service key))
+    (ended : P (ListEnd groups.Service))
+  where
+    pub by_service : (event : Event) → IsOfGroup groups.Service event → P event
+    by_service (Changed version (objects.Service service)) of = shown version service
+    by_service (Changed version (objects.Pool pool)) of = absurd (cc)
+    by_service (Changed version (objects.L2 adv)) of = absurd (cc)
+    by_service (Changed version (objects.Bgp adv)) of = absurd (cc)
+    by_service (Changed version (objects.Peer peer)) of = absurd (cc)
+    by_service (Changed version (objects.Community community)) of = absurd (cc)
+    by_service (Changed version (objects.Namespace namespace)) of = absurd (cc)
+    by_service (Changed version (objects.Node node)) of = absurd (cc)
+    by_service (Changed version (objects.Slice slice)) of = absurd (cc)
+    by_service (Deleted kinds.Service key) of = gone key
+    by_service (Deleted kinds.Pool key) of = absurd (cc)
+    by_service (Deleted kinds.L2 key) of = absurd (cc)
+    by_service (Deleted kinds.Bgp key) of = absurd (cc)
+    by_service (Deleted kinds.Peer key) of = absurd (cc)
+    by_service (Deleted kinds.Community key) of = absurd (cc)
+    by_service (Deleted kinds.Namespace key) of = absurd (cc)
+    by_service (Deleted kinds.Node key) of = absurd (cc)
+    by_service (Deleted kinds.Slice key) of = absurd (cc)
+    by_service (ListEnd groups.Service) of = ended
+    by_service (ListEnd groups.Config) of = absurd (cc)
+    by_service (ListEnd groups.Endpoint) of = absurd (cc)
+    by_service Expired of = absurd of
+    by_service (Members names) of = absurd of
+    by_service (Frame interface bytes) of = absurd of
+    by_service Ignored of = absurd of
 
 -- ---- one service, by what the event is about
 pub held-version : (o : Option (Versioned Service)) → option_map_or (λ (v : Versioned Service). v.version) o 0 ≡ version_at (option_map held_as o)
@@ -155,31 +185,7 @@ module _ (w : WorldValue) (s : State) (sorted : IsStrictlySortedBy key_cmp (keys
 
   -- an event of the list of services
   service-event : (event : Event) → IsOfGroup groups.Service event → WasTracked event → NowTracked (core_take s event)
-  service-event (Changed version (objects.Service service)) of t = service-shown version service t
-  service-event (Changed version (objects.Pool pool)) of t = absurd (cc)
-  service-event (Changed version (objects.L2 adv)) of t = absurd (cc)
-  service-event (Changed version (objects.Bgp adv)) of t = absurd (cc)
-  service-event (Changed version (objects.Peer peer)) of t = absurd (cc)
-  service-event (Changed version (objects.Community community)) of t = absurd (cc)
-  service-event (Changed version (objects.Namespace namespace)) of t = absurd (cc)
-  service-event (Changed version (objects.Node node)) of t = absurd (cc)
-  service-event (Changed version (objects.Slice slice)) of t = absurd (cc)
-  service-event (Deleted kinds.Service gone) of t = service-deleted gone t
-  service-event (Deleted kinds.Pool gone) of t = absurd (cc)
-  service-event (Deleted kinds.L2 gone) of t = absurd (cc)
-  service-event (Deleted kinds.Bgp gone) of t = absurd (cc)
-  service-event (Deleted kinds.Peer gone) of t = absurd (cc)
-  service-event (Deleted kinds.Community gone) of t = absurd (cc)
-  service-event (Deleted kinds.Namespace gone) of t = absurd (cc)
-  service-event (Deleted kinds.Node gone) of t = absurd (cc)
-  service-event (Deleted kinds.Slice gone) of t = absurd (cc)
-  service-event (ListEnd groups.Service) of t = services-ended t
-  service-event (ListEnd groups.Config) of t = absurd (cc)
-  service-event (ListEnd groups.Endpoint) of t = absurd (cc)
-  service-event Expired of t = absurd of
-  service-event (Members names) of t = absurd of
-  service-event (Frame interface bytes) of t = absurd of
-  service-event Ignored of t = absurd of
+  service-event = by_service (λ (e : Event). WasTracked e → NowTracked (core_take s e)) service-shown service-deleted services-ended
 
 -- ---- the core that takes it
 -- what is held of the services, their list and their claims are as they were
@@ -197,18 +203,14 @@ config-event s = by_effect (λ event c. IsOfGroup groups.Config event → HasSam
     (λ event of. (refl, refl, refl))
 
 -- a service that is shown once more leaves the core as it is
-shown-old : (s : State) (version : ℕ) (service : Service) → leb version (version_held key_cmp s.held.services service.key) ≡ true
+pub shown-old : (s : State) (version : ℕ) (service : Service) → leb version (version_held key_cmp s.held.services service.key) ≡ true
     → core_take s (shows version service) ≡ s
 shown-old s version service old = rw old refl
 
-pub old-event : (s : State) (event : Event) → IsOld event (Some s) → core_take s event ≡ s
-old-event s event is =
-    ap (core_take s) is.2 ∙ shown-old s is.0 is.1 (leb-older is.0 (version_held key_cmp s.held.services is.1.key) is.3)
-
--- so does whatever the core is told, in its services and their claims
+-- whatever the core is told leaves its services and their claims as they are
 pub told-event : (s : State) (event : Event) → IsOfGroup groups.Config event ⊎ IsOld event (Some s) → HasSameServices (core_take s event) s
 told-event s event (inl of) = config-event s event of
-told-event s event (inr is) = subst (λ (t : State). HasSameServices t s) (sym (old-event s event is)) (refl, refl, refl)
+told-event s event (inr is) = subst (λ (t : State). HasSameServices t s) (sym is) (refl, refl, refl)
 
 pub same-tracked : (counter : ℕ) (st : Option Shown) (notices : List Notice) (s t : State) (key : Key) → HasSameServices t s
     → IsTracked counter s.held.services_ended st (held_of s key) (records_of key s.claims) notices
@@ -279,7 +281,7 @@ config_by : (w : WorldValue) (c : Option State) (event : Event) → IsOfGroup gr
 config_by w None event of typed up = tt
 config_by w (Some s) event of typed up = config-up w s event of typed up
 
--- whatever of the configuration is shown, or of a service once more
+-- whatever of the configuration is shown, or leaves the core as it is
 pub good-tell : (event : Event) (w : WorldValue) → IsOfGroup groups.Config event ⊎ IsOld event w.core → AllShowTerms (entries_taken w.core (event ∷ [])) → IsGood w
     → IsGood (after_move (Tells event) w)
 good-tell event w of typed good = record { stored = good.stored; up = config_by w w.core event of typed good.up }

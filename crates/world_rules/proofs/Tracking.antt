@@ -216,7 +216,7 @@ tracked-newer n ended s h x claims notices lt t =
       claimed = claimed-shows ended s h x claims notices lt (agrees-carried (has_gone notices) s x.holding (t.follows.1 lt)) t.claimed;
     }
 
--- an older event is passed over
+-- an older event is ignored
 pub tracked-older : (n : ℕ) (ended : Bool) (s h : Option Shown) (x : Shown) (claims : List Record) (notices : List Notice) → x.version ≤ version_at h
     → IsTracked n ended s h claims (Shows x ∷ notices) → IsTracked n ended s h claims notices
 tracked-older n ended s h x claims notices le t =

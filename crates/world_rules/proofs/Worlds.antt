@@ -196,7 +196,7 @@ good-moves (move ∷ moves) w late earlier may typed good e =
     good-moves moves (after_move move w) (under_way move w late) (entries_of move w ++ earlier) may.1 typed (good-move move w late may.0 here e good)
     (late-move move w late may.0 e good)
 
--- what is known of the puts that are under way behind them
+-- what is known of the puts that are under way after them
 pub late-moves : (moves : List Move) (w : WorldValue) (late : List Put) (earlier : List TranscriptEntry) → AreMoves moves w late
     → AllShowTerms (run_along moves w earlier) → IsGood w → AreExpected w.store w.core late
     → AreExpected (after_moves moves w).store (after_moves moves w).core (late_along moves w late)

@@ -63,7 +63,7 @@ late_left stage store = puts_in (put_out stage.run) ++ late_along stage.moves (b
 abbrev pub store_behind : Stage → StoreValue → StoreValue
 store_behind stage store = (after_moves stage.between (left_by stage store)).store
 
--- The run is one of a core, and its world explains it, where the store is good; what is done behind it, can be done.
+-- The run is one of a core, and its world explains it, where the store is good; what is done after it, can be done.
 pub record IsStage (store : StoreValue) (stage : Stage) : Type 0 where
   pub is_run : IsRun stage.class stage.run
   pub typed : AllShowTerms stage.run
@@ -76,7 +76,7 @@ abbrev pub AreChained : StoreValue → List Stage → Type 0
 AreChained store [] = ⊤
 AreChained store (stage ∷ more) = IsStage store stage × AreChained (store_behind stage store) more
 
--- The store is safe before and behind each move of the run, where its last put reached it and where it didn't, and behind each edit
+-- The store is safe before and after each move of the run, where its last put reached it and where it didn't, and after each edit
 -- and each late landing until the next run.
 pub record IsSafeStage (store : StoreValue) (stage : Stage) : Type 0 where
   pub run : IsExplained stage.class (ended_in stage store) (run_along stage.moves (begun stage.class store stage.list) []) stage.run

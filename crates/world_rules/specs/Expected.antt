@@ -44,7 +44,7 @@ pub record AreExpected (store : StoreValue) (core : Option State) (late : List P
   pub apart : (put other : Put) → Contains late put → Contains late other → CanLand store put → CanLand store other → put.key ≢ other.key
       → (a : AddressValue) → Contains put.holding.addresses a → Contains other.holding.addresses a → ShareByMarks put.holding other.holding
 
--- so it is whatever moves are made behind a start over a good store, where services are shown terms that there can be
+-- so it is whatever moves are made after a start over a good store, where services are shown terms that there can be
 abbrev pub LateAreExpected : Type 0
 LateAreExpected =
     (class : Option (List ℕ)) (store : StoreValue) (list : List Event) (moves : List Move) → IsGoodStore store → IsListOf store list

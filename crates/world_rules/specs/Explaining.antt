@@ -37,7 +37,7 @@ shown_of groups.Config event = Shown event ∷ []
 shown_of groups.Service event = Shown event ∷ []
 shown_of groups.Endpoint event = []
 
--- What an event is in a world: endpoint slices, members, frames and what doesn't matter are passed over, since they change nothing in a
+-- What an event is in a world: endpoint slices, members, frames and what doesn't matter are ignored, since they change nothing in a
 -- core; that all watches expire is that one expires after the other. The newest stands first.
 abbrev pub acts_of_event : Event → List Act
 acts_of_event (Changed version object) = shown_of (group_of (kind_of object)) (Changed version object)
@@ -48,7 +48,7 @@ acts_of_event (Members names) = []
 acts_of_event (Frame interface bytes) = []
 acts_of_event Ignored = []
 
--- idle turns are passed over
+-- idle turns are ignored
 abbrev pub acts_of_turn : Turn → List Act
 acts_of_turn Idle = []
 acts_of_turn (NoPut key pending) = Decided ∷ []
@@ -133,7 +133,7 @@ pub record IsExplained (class : Option (List ℕ)) (w : WorldValue) (along run :
   pub safe : IsSafe w.store
   pub last : (put : Put) → put_out run ≡ Some put → (outcome : Outcome) → IsSafe (after_put put outcome w.store)
 
--- so it is for every world that explains the run, and its store is safe before and behind each move
+-- so it is for every world that explains the run, and its store is safe before and after each move
 abbrev pub IsSafeInWorlds : Option (List ℕ) → List TranscriptEntry → Type 0
 IsSafeInWorlds class run = (store : StoreValue) (list : List Event) (moves : List Move) → Explains class store list moves run
     → IsExplained class (after_moves moves (begun class store list)) (run_along moves (begun class store list) []) run

@@ -110,7 +110,7 @@ HeldAreCurrent w s =
     (key : Key) (stored : Stored) (held : Versioned Service) → IsStored w.store.objects (service_at key) stored → IsHeld s key held
     → held.version ≡ stored.version → IsCurrent w s key held (record_of stored.object)
 
--- A live event shows the stored record, where that has an address; or a deletion of the service stands behind it, and the service isn't
+-- A live event shows the stored record, where that has an address; or a deletion of the service stands after it, and the service isn't
 -- stored, or without an address.
 pub record LiveAreStored (w : WorldValue) (s : State) : Type 0 where
   pub last : (before behind : List Event) (version : ℕ) (service : Service) → IsPending w before (shows_service version service) behind
@@ -136,7 +136,7 @@ pub record IsQuiescent (s : State) : Type 0 where
   pub idle : is_ready s.held ≡ false → s.queue ≡ []
 
 -- The versions that are pending of a stored service: they ascend, up to the stored one, which is the last where the service isn't held at
--- it; those with a deletion behind them are less.
+-- it; those with a deletion after them are less.
 pub record AreInOrder (w : WorldValue) (s : State) : Type 0 where
   pub held : (key : Key) (stored : Stored) (held : Versioned Service) → IsStored w.store.objects (service_at key) stored → IsHeld s key held
       → held.version ≤ stored.version
@@ -147,7 +147,7 @@ pub record AreInOrder (w : WorldValue) (s : State) : Type 0 where
   pub deleted : (before behind : List Event) (version : ℕ) (service : Service) (stored : Stored) → IsPending w before (shows_service version service) behind
       → IsStored w.store.objects (service_at service.key) stored → Contains behind (deletes_service service.key) → version < stored.version
 
--- A stored service that isn't held at its version is going to be shown at it, and not deleted behind that.
+-- A stored service that isn't held at its version is going to be shown at it, and not deleted after that.
 pub record WillBeShownAt (w : WorldValue) (key : Key) (version : ℕ) : Type 0 where
   pub before : List Event
   pub service : Service

@@ -29,12 +29,12 @@ pub record IsSafeWorld (w : WorldValue) : Type 0 where
   pub kept : IsWellFormed w.store
   pub ordered : IfSome w.core (IsInOrder w)
 
--- so it is before and behind each of the moves
+-- so it is before and after each of the moves
 abbrev pub AreSafeAlong : List Move → WorldValue → Type 0
 AreSafeAlong [] w = IsSafeWorld w
 AreSafeAlong (move ∷ moves) w = IsSafeWorld w × AreSafeAlong moves (after_move move w)
 
--- so it is whatever moves are made behind a start over a safe store, where services are shown terms that there can be
+-- so it is whatever moves are made after a start over a safe store, where services are shown terms that there can be
 abbrev pub WorldsAreSafe : Type 0
 WorldsAreSafe =
     (class : Option (List ℕ)) (store : StoreValue) (list : List Event) (moves : List Move) → IsGoodStore store → IsListOf store list

@@ -1,6 +1,6 @@
 -- What may happen in a cluster. It is wider than what `World` does in all that an API server and its watches are free in: records that are
 -- emptied, lists in any order, changes shown ahead of a list's end, and whatever is shown of the configuration.
-use Rattle.std.specs.Prelude.{◌≡◌, ◌+◌, ◌≤◌, ◌⊎◌, ℕ, Bool, true, if◌then◌else◌, List, [], ◌∷◌, ◌++◌, map, filter, Option, Some, None, IfSome, is_some, ⊤}
+use Rattle.std.specs.Prelude.{◌≡◌, ◌+◌, ◌⊎◌, ℕ, Bool, true, if◌then◌else◌, List, [], ◌∷◌, ◌++◌, map, filter, Option, Some, None, IfSome, is_some, ⊤}
 use Rattle.std.specs.List.{Contains}
 use Rattle.std.specs.Option.{option_map}
 use Rattle.kube_model.specs.declared.event.Event.{Event}
@@ -12,11 +12,8 @@ use Rattle.kube_model.specs.declared.object.Kind.{Kind}
 use Rattle.kube_model.specs.declared.object.Object.{Object}
 use Rattle.kube_model.specs.declared.put.Put.{Put}
 use Rattle.kube_model.specs.declared.record.Record.{Record}
-use Rattle.kube_model.specs.declared.service.Service.{Service}
-use Rattle.kube_model.specs.Keys.{key_cmp}
 use Rattle.kube_model.specs.Kinds.{kind_of, group_of}
 use Rattle.kube_model.specs.Records.{is_assigned}
-use Rattle.versioned_map.specs.Objects.{version_at}
 use Rattle.world_rules.specs.Tracked.{is_given}
 use Rattle.status_store.specs.declared.change.Edit.TheVariants.{Delete}
 use Rattle.status_store.specs.declared.change.Outcome.{Outcome}
@@ -26,7 +23,7 @@ use Rattle.status_store.specs.Places.{place_of}
 use Rattle.status_store.specs.Objects.{stored_at, with_stored}
 use Rattle.status_store.specs.Changes.{StoreValue, kept_record, with_record, after_put, reply_to}
 use Rattle.core_rules.specs.Core.{State, fresh}
-use Rattle.core_rules.specs.Take.{core_take, shows}
+use Rattle.core_rules.specs.Take.{core_take}
 use Rattle.core_rules.specs.Turn.{core_turn, put_in}
 use Rattle.core_rules.specs.Run.{TranscriptEntry, Took, Expired, Turned, Heard}
 use Rattle.core_laws.specs.Shared.{AllShowTerms}
@@ -37,7 +34,7 @@ use Rattle.world_rules.specs.World.{expired_core}
 pub data Move : Type 0 where
   Sets : (object : Object) (holding : Record) → Move  -- somebody sets an object; a service is stored with this record
   Deletes : (kind : Kind) (key : Key) → Move  -- somebody deletes an object
-  Tells : (event : Event) → Move  -- the controller is shown something of the configuration, or a service once more
+  Tells : (event : Event) → Move  -- the controller is shown something of the configuration, or once more what leaves its core as it is
   Takes : Move  -- it takes the next event of the services
   Turns : (outcome : Outcome) → Move  -- it makes a turn; where it wants a put, the put goes so, and its reply is heard
   Stops : (applied : Bool) → Move  -- it stops; the put that its next turn would want has reached the store, if it is applied
@@ -55,7 +52,7 @@ InAnyOrder [] lane = lane ≡ []
 InAnyOrder (event ∷ more) lane =
     (before : List Event) × (behind : List Event) × (lane ≡ before ++ event ∷ behind) × InAnyOrder more (before ++ behind)
 
--- a list of the services: one event for each that is stored, in any order, and the end behind them
+-- a list of the services: one event for each that is stored, in any order, and the end after them
 abbrev pub IsListOf : StoreValue → List Event → Type 0
 IsListOf store list =
     (shown : List Event) × (list ≡ shown ++ ListEnd groups.Service ∷ []) × InAnyOrder (map as_shown (filter (is_of_group groups.Service) store.objects)) shown
@@ -86,15 +83,14 @@ under_way (ServicesExpire list) w late = if is_some w.core then [] else late
 under_way (EndsLater before event behind) w late = late
 under_way (Lands put) w late = late
 
--- the event shows a service that the core holds so, or as it is later
+-- the event leaves the core as it is
 abbrev pub IsOld : Event → Option State → Type 0
-IsOld event core = (version : ℕ) × (service : Service) × (event ≡ shows version service)
-    × IfSome core (λ s. version ≤ version_at key_cmp s.held.services service.key)
+IsOld event core = IfSome core (λ s. core_take s event ≡ s)
 
 -- Where it has an address and a mark, the record of a service that is set is the one that is stored. Of the configuration the controller may be
--- shown whatever is of it, pending or not, in any order and as often as may be; and a service once more, no newer than it holds it. The end of a
--- list of services, which stands behind what was listed, may come later than changes that were made since. Of the puts that are under way each may
--- land, at any time.
+-- shown whatever is of it, pending or not, in any order and as often as may be; and whatever leaves its core as it is, as what it was shown last does.
+-- The end of a list of services, which stands after what was listed, may come later than changes that were made since. Of the puts that are under
+-- way each may land, at any time.
 abbrev pub IsMove : Move → WorldValue → List Put → Type 0
 IsMove (Sets object holding) w late = is_given holding ≡ true → holding ≡ kept_record (stored_at w.store.objects (place_of object))
 IsMove (Deletes kind key) w late = ⊤
@@ -224,7 +220,7 @@ abbrev pub after_moves : List Move → WorldValue → WorldValue
 after_moves [] w = w
 after_moves (move ∷ moves) w = after_moves moves (after_move move w)
 
--- all that the core was shown and did, behind an earlier run
+-- all that the core was shown and did, after an earlier run
 abbrev pub run_along : List Move → WorldValue → List TranscriptEntry → List TranscriptEntry
 run_along [] w earlier = earlier
 run_along (move ∷ moves) w earlier = run_along moves (after_move move w) (entries_of move w ++ earlier)

@@ -1,5 +1,5 @@
 -- A world without a core: what is stored, edited, written and read, and nothing of what a controller decides. The newest stands first.
-use Rattle.std.specs.Prelude.{◌≡◌, ◌+◌, ℕ, true, if◌then◌else◌, List, [], ◌∷◌, ◌++◌, drop, Option, Some, None, is_some, ⊤}
+use Rattle.std.specs.Prelude.{◌≡◌, ◌+◌, ℕ, true, if◌then◌else◌, List, [], ◌∷◌, ◌++◌, take, drop, Option, Some, None, is_some, ⊤}
 use Rattle.std.specs.List.{Contains}
 use Rattle.kube_model.specs.declared.event.Event.{Event}
 use Rattle.kube_model.specs.declared.event.Event.TheVariants.{Changed, Deleted, ListEnd, Expired, Members, Frame, Ignored}
@@ -11,7 +11,6 @@ use Rattle.kube_model.specs.declared.object.Object.{Object}
 use Rattle.kube_model.specs.declared.put.Put.{Put}
 use Rattle.kube_model.specs.declared.record.Record.{Record}
 use Rattle.kube_model.specs.declared.reply.PutReply.{PutReply}
-use Rattle.kube_model.specs.declared.service.Service.{Service}
 use Rattle.kube_model.specs.Kinds.{kind_of, group_of}
 use Rattle.kube_model.specs.Records.{is_assigned}
 use Rattle.sharing_terms.specs.declared.terms.Terms.{Terms}
@@ -23,7 +22,6 @@ use Rattle.status_store.specs.Places.{place_of}
 use Rattle.status_store.specs.Changes.{StoreValue, kept_record, after_put, reply_to}
 use Rattle.core_laws.specs.Shared.{AllShowTerms}
 use Rattle.core_rules.specs.Run.{TranscriptEntry, Took, Expired as ExpiredByCore, Turned, Heard, put_out, IsRun}
-use Rattle.core_rules.specs.Take.{shows}
 use Rattle.core_rules.specs.Turn.{put_in}
 use Rattle.world_rules.specs.Explaining.{answered, Explains}
 use Rattle.world_rules.specs.Good.{IsGoodStore, IsOfGroup}
@@ -35,7 +33,7 @@ use Rattle.world_rules.specs.World.{as_shown, to_lane, shown_put}
 pub record Outside : Type 0 where
   pub store : StoreValue
   pub lane : List Event
-  pub last : Option Event
+  pub last : List Event
   pub late : List Put
 
 pub data Happening : Type 0 where
@@ -43,17 +41,12 @@ pub data Happening : Type 0 where
   DeletedBy : (kind : Kind) (key : Key) → Happening  -- somebody deletes an object
   ReadsConfig : (event : Event) → Happening  -- something of the configuration is read
   Reads : Happening  -- the next event of the services is read
-  ReadsAgain : (version : ℕ) (service : Service) → Happening  -- a service is read once more as it was read last
+  ReadsAgain : Happening  -- what was read last of the services is read once more
   Writes : (put : Put) (outcome : Outcome) → Happening  -- a put is written, goes so, and its reply is read
   ConfigRunsOut : Happening  -- the watch of the configuration expires
   ServicesRunOut : (list : List Event) → Happening  -- that of the services does, and this list is going to be read
   EndComesLater : (before : List Event) (event : Event) (behind : List Event) → Happening  -- a change is going to be read ahead of the list's end
   LandsLate : (put : Put) → Happening  -- a put that was given up is stored after all
-
--- the event that was read last, where these are going to be read
-abbrev pub last_read : List Event → Option Event → Option Event
-last_read [] last = last
-last_read (event ∷ more) last = Some event
 
 -- what each makes of it
 abbrev pub after_happening : Happening → Outside → Outside
@@ -70,8 +63,8 @@ after_happening (DeletedBy kind key) o = let there = is_some (stored_at o.store.
   late = o.late;
 }
 after_happening (ReadsConfig event) o = o
-after_happening Reads o = record o { lane = drop 1 o.lane; last = last_read o.lane o.last }
-after_happening (ReadsAgain version service) o = o
+after_happening Reads o = record o { lane = drop 1 o.lane; last = take 1 o.lane }
+after_happening ReadsAgain o = o
 after_happening (Writes put outcome) o = record {
   store = after_put put outcome o.store;
   lane = o.lane ++ shown_put put outcome o.store;
@@ -79,7 +72,7 @@ after_happening (Writes put outcome) o = record {
   late = given_up outcome (Some put) ++ o.late;
 }
 after_happening ConfigRunsOut o = o
-after_happening (ServicesRunOut list) o = record { store = o.store; lane = list; last = None; late = [] }
+after_happening (ServicesRunOut list) o = record { store = o.store; lane = list; last = []; late = [] }
 after_happening (EndComesLater before event behind) o = record o { lane = before ++ event ∷ ListEnd groups.Service ∷ behind }
 after_happening (LandsLate put) o = record {
   store = after_put put (Lost true) o.store;
@@ -89,24 +82,23 @@ after_happening (LandsLate put) o = record {
 }
 
 -- What may happen: where it has an address and a mark, the record of a service that is set is the one that is stored; a list has each service that
--- is stored, in any order, and then its end, which may come later; a service may be read twice, one time after the other; and of the puts that are
--- under way each may land, at any time.
+-- is stored, in any order, and then its end, which may come later; and of the puts that are under way each may land, at any time.
 abbrev pub MayHappen : Happening → Outside → Type 0
 MayHappen (SetBy object holding) o =
     is_assigned holding ≡ true → (terms : Terms) → IsMarkOf terms holding.mark → holding ≡ kept_record (stored_at o.store.objects (place_of object))
 MayHappen (DeletedBy kind key) o = ⊤
 MayHappen (ReadsConfig event) o = IsOfGroup groups.Config event
 MayHappen Reads o = ⊤
-MayHappen (ReadsAgain version service) o = o.last ≡ Some (shows version service)
+MayHappen ReadsAgain o = ⊤
 MayHappen (Writes put outcome) o = ⊤
 MayHappen ConfigRunsOut o = ⊤
 MayHappen (ServicesRunOut list) o = IsListOf o.store list
 MayHappen (EndComesLater before event behind) o = o.lane ≡ before ++ ListEnd groups.Service ∷ event ∷ behind
 MayHappen (LandsLate put) o = Contains o.late put
 
--- what is there after all of it, behind a start over this store, with this list to be read
+-- what is there after all of it, after a start over this store, with this list to be read
 abbrev pub outside_after : StoreValue → List Event → List Happening → Outside
-outside_after store list [] = record { store = store; lane = list; last = None; late = [] }
+outside_after store list [] = record { store = store; lane = list; last = []; late = [] }
 outside_after store list (h ∷ earlier) = after_happening h (outside_after store list earlier)
 
 abbrev pub MayAllHappen : StoreValue → List Event → List Happening → Type 0
@@ -129,7 +121,7 @@ seen_by (SetBy object holding) o = []
 seen_by (DeletedBy kind key) o = []
 seen_by (ReadsConfig event) o = Read event ∷ []
 seen_by Reads o = read_first o.lane
-seen_by (ReadsAgain version service) o = Read (shows version service) ∷ []
+seen_by ReadsAgain o = read_first o.last
 seen_by (Writes put outcome) o = Answered (reply_to put outcome o.store) ∷ Wrote put ∷ []
 seen_by ConfigRunsOut o = RanOut groups.Config ∷ []
 seen_by (ServicesRunOut list) o = RanOut groups.Service ∷ []
@@ -146,7 +138,7 @@ seen_of_list groups.Config event = Read event ∷ []
 seen_of_list groups.Service event = Read event ∷ []
 seen_of_list groups.Endpoint event = []
 
--- What is seen of an event that is taken: members, frames and what doesn't matter are passed over too; that all watches expire is that one expires
+-- What is seen of an event that is taken: members, frames and what doesn't matter are ignored too; that all watches expire is that one expires
 -- after the other. The newest stands first.
 abbrev pub seen_event : Event → List Seen
 seen_event (Changed version object) = seen_of_list (group_of (kind_of object)) (Changed version object)
@@ -181,7 +173,7 @@ pub record IsSeenIn (store : StoreValue) (list : List Event) (happenings : List 
   pub may : MayAllHappen store list happenings
   pub same : seen_in store list happenings ≡ seen
 
--- the store is safe at the beginning, and behind each of the happenings
+-- the store is safe at the beginning, and after each of the happenings
 abbrev pub AreSafeSince : StoreValue → List Event → List Happening → Type 0
 AreSafeSince store list [] = IsSafe store
 AreSafeSince store list (h ∷ earlier) = IsSafe (outside_after store list (h ∷ earlier)).store × AreSafeSince store list earlier
@@ -191,7 +183,7 @@ abbrev pub IsSafeBehind : Option Put → StoreValue → Type 0
 IsSafeBehind None store = ⊤
 IsSafeBehind (Some put) store = (outcome : Outcome) → IsSafe (after_put put outcome store)
 
--- In each world in which this is seen, with this put behind it, if there is one, the store is safe at each moment.
+-- In each world in which this is seen, with this put after it, if there is one, the store is safe at each moment.
 abbrev pub IsSafeWhereSeen : Option Put → List Seen → Type 0
 IsSafeWhereSeen out seen = (store : StoreValue) (list : List Event) (happenings : List Happening) → IsSeenIn store list happenings seen
     → AreSafeSince store list happenings × IsSafeBehind out (outside_after store list happenings).store

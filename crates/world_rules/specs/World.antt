@@ -104,7 +104,7 @@ told None lane = None
 told (Some s) [] = Some s
 told (Some s) (event ∷ more) = Some (core_take s event)
 
--- the lane behind its first event, where there is a controller that takes it
+-- the lane after its first event, where there is a controller that takes it
 abbrev pub untold : Option State → List Event → List Event
 untold None lane = lane
 untold (Some s) [] = []

@@ -1,4 +1,5 @@
-//! The world of a controller: a store that others edit, what of it is still to be shown, and a core that may stop.
+//! The world of a controller: a store that others edit, what of it is still to be shown, and a core
+//! that may stop.
 #![tactic(auto)]
 
 mod laws;

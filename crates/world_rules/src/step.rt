@@ -14,11 +14,13 @@ pub enum Step {
     Take { group: ListGroup },
     /// The controller makes a turn. Where it wants a put, the put goes so, and its reply is heard.
     Turn { outcome: Outcome },
-    /// The controller stops. The put that its next turn would want has reached the store, if it is applied.
+    /// The controller stops. The put that its next turn would want has reached the store, if it is
+    /// applied.
     Crash { applied: bool },
     /// The controller is started anew, and is shown the lists of what is stored, in this order.
     Restart { order: ListOrder },
-    /// The watch of a lane expires: what was pending in it is lost, and the list of what is stored is shown anew, in this order.
+    /// The watch of a lane expires: what was pending in it is lost, and the list of what is stored
+    /// is shown anew, in this order.
     Expire { group: ListGroup, order: ListOrder },
 }
 

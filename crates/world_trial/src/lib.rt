@@ -1,5 +1,5 @@
-//! A trial of the world: steps that are drawn from a seed, edits of services and moves of the controller among them, and what is
-//! stored in the end.
+//! A trial of the world: steps that are drawn from a seed, edits of services and moves of the
+//! controller among them, and what is stored in the end.
 #![tactic(auto)]
 
 mod begun;

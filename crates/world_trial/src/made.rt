@@ -4,7 +4,8 @@ ghost use Rattle.std.specs.Option.{option_copied};
 ghost use Rattle.core_rules.specs.Turn.{core_turn, put_in};
 ghost use Rattle.status_store.specs.Changes.{IsWellFormed};
 ghost use Rattle.world_rules.specs.World.{world_step};
-ghost use Rattle.world_trial.specs.Run.{is_made, next_puts, step_puts, after, puts_in, after_draw, draw_puts};
+ghost use Rattle.world_trial.specs.Run.{is_made, next_puts, step_puts, after, puts_in, after_draw};
+ghost use Rattle.world_trial.specs.Run.{draw_puts};
 
 use crate::drawn::step_of;
 use core_rules::Turn;
@@ -27,7 +28,8 @@ fn is_up(world: &World) -> bool
 }
 
 fn turn_puts(core: &Core) -> Result<u64, NoMemory>
-    ensures { IfOk result (λ puts. puts ≡ (if is_some (put_in (core_turn core.now)) then 1 else 0)) }
+    ensures { IfOk result (λ puts. puts
+        ≡ (if is_some (put_in (core_turn core.now)) then 1 else 0)) }
 {
     match core.next_turn()? {
         Turn::Wants { put, .. } => {
@@ -72,7 +74,8 @@ fn is_kept(world: &World)
 /// Makes the step, where there is such a step and it passes no limit.
 fn make(world: &mut World, step: Step) -> Result<bool, NoMemory>
     ensures made { IfOk result (λ made. made ≡ is_made step world.old) }
-    ensures world { IfOk result (λ made. world.new ≡ (if made then world_step step world.old else world.old)) }
+    ensures world { IfOk result (λ made. world.new
+        ≡ (if made then world_step step world.old else world.old)) }
 {
     is_kept(world);
     match world.step(step) {
@@ -107,7 +110,8 @@ fn take_drawn(world: &mut World, step: Option<Step>) -> Result<u64, NoMemory>
     }
 }
 
-/// Makes what the number says, where it can be made, and answers the puts that it wants: one at most.
+/// Makes what the number says, where it can be made, and answers the puts that it wants: one at
+/// most.
 pub(crate) fn take_draw(alloc: Global, world: &mut World, x: u64) -> Result<u64, NoMemory>
     ensures world { OnOk result (world.new ≡ after_draw x world.old) }
     ensures puts { IfOk result (λ puts. puts ≡ draw_puts x world.old) }

@@ -12,7 +12,8 @@ pub type RecordLines = Sequence<(Key, AddressList)>;
 pub struct TrialReport {
     /// The services that are stored in the end, by key.
     pub records: RecordLines,
-    /// How many puts the turns wanted, whatever their outcome, together with those of crashes that were applied.
+    /// How many puts the turns wanted, whatever their outcome, together with those of crashes that
+    /// were applied.
     pub puts: u64,
     /// How many steps were drawn.
     pub steps: u32,

@@ -1,6 +1,7 @@
 //! The services that are set and deleted.
 ghost use Rattle.std.specs.Prelude.{◌≡◌, [], ◌∷◌, IfOk, string_bytes};
-ghost use Rattle.world_trial.specs.Services.{name_of, numbered, share_key_of, policy_of, selector_of, port_of, service_of};
+ghost use Rattle.world_trial.specs.Services.{name_of, numbered, share_key_of, policy_of};
+ghost use Rattle.world_trial.specs.Services.{selector_of, port_of, service_of};
 
 use ip_ranges::Family;
 use kube_labels::{Labels, Text};

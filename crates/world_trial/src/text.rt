@@ -1,6 +1,7 @@
 //! The text of what is told of a trial.
 ghost use Rattle.std.specs.Prelude.{◌≡◌, ◌++◌, [], ◌∷◌, IfOk, OnOk, string_bytes, flat_map, length};
-ghost use Rattle.world_trial.specs.Report.{is_assigned, assigned_in, line_text, counts_text, report_text};
+ghost use Rattle.world_trial.specs.Report.{is_assigned, assigned_in, line_text, counts_text};
+ghost use Rattle.world_trial.specs.Report.{report_text};
 
 use crate::report::TrialReport;
 use ip_ranges::AddressList;

@@ -5,7 +5,8 @@ ghost use Rattle.world_rules.specs.Safe.{IsSafe};
 ghost use Rattle.world_trial.specs.Draws.{draws};
 ghost use Rattle.world_trial.specs.Lines.{AreByKey, IsNumbered, keys_in};
 ghost use Rattle.world_trial.specs.Report.{report_after, report_of};
-ghost use Rattle.world_trial.specs.Run.{MadeExactlyWhereAllowed, after_draws, draws_puts, trial_world};
+ghost use Rattle.world_trial.specs.Run.{MadeExactlyWhereAllowed, after_draws, draws_puts};
+ghost use Rattle.world_trial.specs.Run.{trial_world};
 
 use crate::begun::first_world;
 use crate::draws::draw;
@@ -60,9 +61,10 @@ fn report_of(alloc: Global, seed: u64, steps: u32) -> Result<TrialReport, NoMemo
     report
 }
 
-/// Makes so many steps in a world of two pools, and tells what is stored in the end. Each step is drawn from the seed (SplitMix64): a
-/// service is set or deleted, or the controller takes an event, makes a turn, whose put may be lost, stops or is started again. A
-/// step that can't be made, as there is no such step or it passes a limit, changes nothing, and counts.
+/// Makes so many steps in a world of two pools, and tells what is stored in the end. Each step is
+/// drawn from the seed (SplitMix64): a service is set or deleted, or the controller takes an event,
+/// makes a turn, whose put may be lost, stops or is started again. A step that can't be made, as
+/// there is no such step or it passes a limit, changes nothing, and counts.
 pub fn trial(alloc: Global, seed: u64, steps: u32) -> Result<TrialReport, NoMemory>
     ensures report { IfOk result (λ report. report ≡ report_of seed steps) }
 
@@ -71,7 +73,8 @@ pub fn trial(alloc: Global, seed: u64, steps: u32) -> Result<TrialReport, NoMemo
     ensures numbered { IfOk result (λ report. AllByRecursion IsNumbered (keys_in report.records)) }
     ensures few { IfOk result (λ report. length report.records ≤ 48) }
 
-    // At no moment are two services recorded with one address, unless they share it by the terms of their marks.
+    // At no moment are two services recorded with one address, unless they share it by the terms of
+    // their marks.
     ensures safe { (n : ℕ) → IsSafe (trial_world seed n).store }
 
     // At each moment a step is made exactly where there is such a step, and it passes no limit.

@@ -1,4 +1,5 @@
-//! What is stored right behind a crash at each place of a history, and once the controller has gone on until nothing is left to do.
+//! What is stored right after a crash at each place of a history, and once the controller has gone
+//! on until nothing is left to do.
 
 use crate::worlds::judged::waits_in_vain;
 use crate::worlds::steps::{LineOutcome, make, world_of};
@@ -81,8 +82,8 @@ fn make_all(
     Ok(())
 }
 
-/// The steps of the history and then the crash; what is stored there is answered, with the word `waits` where a service waits then, and none where
-/// the controller is down.
+/// The steps of the history and then the crash; what is stored there is answered, with the word
+/// `waits` where a service waits then, and none where the controller is down.
 fn make_and_crash(
     alloc: Global,
     world: &mut World,
@@ -133,7 +134,7 @@ fn then_text(alloc: Global, behind: &str, end: &str) -> Result<String, NoMemory>
     Ok(format!(in alloc; "{behind}, then{end}")?)
 }
 
-/// What is stored behind the crash, and in the end; none where the controller is down there.
+/// What is stored after the crash, and in the end; none where the controller is down there.
 fn crash_and_finish(
     alloc: Global,
     world: &mut World,
@@ -180,7 +181,7 @@ fn line_of(
     )?)
 }
 
-/// The line of a crash behind the history, where the controller is up there.
+/// The line of a crash after the history, where the controller is up there.
 fn crash_line(
     alloc: Global,
     objects: &[Text],

@@ -57,7 +57,8 @@ fn lacks_address(stored: &[Stored]) -> bool {
     })
 }
 
-/// Whether a service has no address while one of a pool is recorded for none. No service here shares or asks for one.
+/// Whether a service has no address while one of a pool is recorded for none. No service here
+/// shares or asks for one.
 pub fn waits_in_vain(store: &Store) -> bool {
     let stored = store.list().as_slice();
     lacks_address(stored) && has_free(stored)

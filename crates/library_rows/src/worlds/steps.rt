@@ -54,7 +54,7 @@ fn reset_of(event: Event) -> Option<Edit> {
     }
 }
 
-/// The edit that the line shows: an event line behind `reset ` sets its object with its own record.
+/// The edit that the line shows: an event line after `reset ` sets its object with its own record.
 fn edit_step(alloc: Global, line: &str) -> Result<Option<Step>, NoMemory> {
     let edit = match line.strip_prefix("reset ") {
         None => event_of(alloc, line)?.and_then(edit_of),
@@ -95,7 +95,8 @@ fn ordered_step(line: &str, order: ListOrder) -> Option<Step> {
     }
 }
 
-/// The step that the words say, if they say one. Lists have this order, and the other one where the words say so.
+/// The step that the words say, if they say one. Lists have this order, and the other one where the
+/// words say so.
 fn worded_step(line: &str, order: ListOrder) -> Option<Step> {
     if let Some(outcome) = outcome_of(line) {
         return Some(Step::Turn { outcome });

@@ -83,7 +83,8 @@ fn is_met<J: Naming + Send + Sync, R: Threads + Wait + Abort + Sync>(
     Ok(())
 }
 
-/// The second number is published only once the first was seen, and the responder asks until it is: neither thread can do without the other.
+/// The second number is published only once the first was seen, and the responder asks until it is:
+/// neither thread can do without the other.
 #[test]
 fn the_responder_meets_the_writer(rt: HostRuntime) -> Result<(), Fail> {
     is_met::<Brand, _>(&rt, rt.alloc(), Opened::new())

@@ -42,7 +42,8 @@ fn is_told<J: Naming, R: Wait + Abort>(
     Ok(())
 }
 
-/// What is pending isn't seen; what is published is, once it was told of. Once the writer has ended nothing is.
+/// What is pending isn't seen; what is published is, once it was told of. Once the writer has ended
+/// nothing is.
 #[test]
 fn what_was_told_of_is_seen(rt: HostRuntime) -> Result<(), Fail> {
     is_told::<Brand, _>(&rt, rt.alloc(), Opened::new())

@@ -1,6 +1,7 @@
 //! The first line of a source, and the reads that it takes.
 //!
-//! Each function here is proved: a source, a reader and a line are let go by a call of `drop` in one place.
+//! Each function here is proved: a source, a reader and a line are dropped by a call of `drop` in
+//! one place.
 
 use mlb_edge::{LINE_LIMIT, LineReader, MemSource};
 use std::alloc::Global;

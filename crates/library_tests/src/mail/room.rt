@@ -18,7 +18,7 @@ const COUNT: u64 = 70_000;
 
 const LOOKS: u64 = 1_000_000_000;
 
-/// Sends the items behind the first, and ends the lane.
+/// Sends the items after the first, and ends the lane.
 fn send_rest<R: Abort + Wait>(
     rt: &R,
     mail: &Mail,
@@ -36,7 +36,7 @@ fn send_rest<R: Abort + Wait>(
     mail.end(rt, pass)
 }
 
-/// Takes the items behind the first, and looks for no more.
+/// Takes the items after the first, and looks for no more.
 fn take_behind<R: Abort + Wait>(rt: &R, mail: &Mail, inbox: &mut InboxPass)
     requires { inbox.old.mail ≡ mail.now }
 {
@@ -46,7 +46,7 @@ fn take_behind<R: Abort + Wait>(rt: &R, mail: &Mail, inbox: &mut InboxPass)
     check_end(rt, mail, inbox);
 }
 
-/// Takes the items behind the first once the lane has come as far as it may.
+/// Takes the items after the first once the lane has come as far as it may.
 fn take_rest<R: Abort + Wait>(rt: &R, mail: &Mail, inbox: &mut InboxPass, reached: &AtomicU64)
     requires { inbox.old.mail ≡ mail.now }
 {
@@ -72,7 +72,8 @@ fn send_and_take<R: Threads + Abort + Wait + Sync>(
     second: LanePass,
     inbox: &mut InboxPass,
 )
-    requires mail { (first.mail ≡ mail.now) × (second.mail ≡ mail.now) × (inbox.old.mail ≡ mail.now) }
+    requires mail { (first.mail ≡ mail.now) × (second.mail ≡ mail.now)
+        × (inbox.old.mail ≡ mail.now) }
     requires first { (first.lane ≡ Lane.First) × (length first.sent ≡ 0) }
 {
     send(rt, mail, &mut first, Lane::First, 0);
@@ -82,7 +83,8 @@ fn send_and_take<R: Threads + Abort + Wait + Sync>(
     let _ends = join(
         rt,
         || -> LaneDone
-            requires { IsSync R.row × (first.mail ≡ mail.now) × (first.lane ≡ Lane.First) × (length first.sent ≡ 1) }
+            requires { IsSync R.row × (first.mail ≡ mail.now) × (first.lane ≡ Lane.First)
+                × (length first.sent ≡ 1) }
         { send_rest(rt, mail, first, &reached) },
         ||
             requires { inbox.now.mail ≡ mail.now }
@@ -97,7 +99,8 @@ fn a_lane_that_is_far_ahead_waits(rt: HostRuntime) -> Result<(), NoMemory> {
     Ok(())
 }
 
-/// All of the first lane is sent, and then an item of the second. It is taken behind one of the first.
+/// All of the first lane is sent, and then an item of the second. It is taken after one of the
+/// first.
 fn send_both<R: Abort + Wait>(
     rt: &R,
     mail: &Mail,
@@ -105,7 +108,8 @@ fn send_both<R: Abort + Wait>(
     mut second: LanePass,
     inbox: &mut InboxPass,
 )
-    requires mail { (first.mail ≡ mail.now) × (second.mail ≡ mail.now) × (inbox.old.mail ≡ mail.now) }
+    requires mail { (first.mail ≡ mail.now) × (second.mail ≡ mail.now)
+        × (inbox.old.mail ≡ mail.now) }
     requires lanes { (first.lane ≡ Lane.First) × (second.lane ≡ Lane.Second) }
     requires sent { (length first.sent ≡ 0) × (length second.sent ≡ 0) }
 {

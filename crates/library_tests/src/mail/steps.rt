@@ -1,6 +1,7 @@
 //! Steps of a mail.
 //!
-//! Each function here is proved, so an item, a mail and what comes of it are let go by a call of `drop`.
+//! Each function here is proved, so an item, a mail and what comes of it are dropped by a call of
+//! `drop`.
 ghost use Rattle.std.specs.Prelude.{◌≡◌, ◌+◌, ◌^◌, ◌<◌, length};
 
 use kube_model::Event;

@@ -36,9 +36,9 @@ run_lane_files-requires-clause-live g c = λ _ _ i r o name more.
     (subst
     (λ s. AsksMore belongs_to lane_rules s
     (lane_state (g.F.WatchedFiles.bytes c.args.files.now c.args.lanes.first.now) (Some c.args.lanes.first.now) 0
-    (g.F.WatchedFiles.safe c.args.files.now c.args.lanes.first.now))
+    (g.F.WatchedFiles.unfailing c.args.files.now c.args.lanes.first.now))
     (lane_state (g.F.WatchedFiles.bytes c.args.files.now c.args.lanes.second.now) (Some c.args.lanes.second.now) 0
-    (g.F.WatchedFiles.safe c.args.files.now c.args.lanes.second.now))
+    (g.F.WatchedFiles.unfailing c.args.files.now c.args.lanes.second.now))
     (outside unread (source_state (g.S.PacedSource.left c.args.input.now) (g.S.PacedSource.name c.args.input.now) (g.S.PacedSource.faults c.args.input.now))
     (g.K.Sink.written c.args.out.now) (g.K.Sink.faults c.args.out.now))
     (outside r (source_state (g.S.PacedSource.left i) (g.S.PacedSource.name i) (g.S.PacedSource.faults i)) (g.K.Sink.written o) (g.K.Sink.faults o)))

@@ -18,7 +18,7 @@ run_opened-status-requires-clause-may g c = λ _ _. record {
     more.0,
     more.1,
     files.of_files c.args.first.now c.args.second.now _ _ _ _ _ _ _ _ _ _ _ _ _ _ c.in-Ok-open.ensures.opened c.in-Ok-open-2.ensures.opened
-        (c.open.ensures.bytes c.args.second.now) (c.open.ensures.safe c.args.second.now) c.in-Ok.reader c.in-Ok.ensures
+        (c.open.ensures.bytes c.args.second.now) (c.open.ensures.unfailing c.args.second.now) c.in-Ok.reader c.in-Ok.ensures
         (λ v v' reader. AsksOf (turned g.A.Turner.Turns g.B.Turner.Turns g.M.Lanes.belongs (g.A.Turner.state c.args.first_turner.now) more.0
         (g.B.Turner.state c.args.second_turner.now) more.1) g.M.LaneMachine.rules (g.M.LaneMachine.state c.args.machine) v v'
         (outside reader (source_state (g.I.PacedSource.left c.args.input.now) (g.I.PacedSource.name c.args.input.now) (g.I.PacedSource.faults c.args.input.now))
@@ -83,7 +83,7 @@ returns-in-Ok-Ok-clause-ended g c = λ other.
     let two = c.in-Ok-Ok.ensures'.ok in
     let names = c.run_opened-status.ensures.names in
     files.ends_with turned_lawful g.M.LaneMachine.rules (g.M.LaneMachine.state c.args.machine) c.requires.quiet
-    c.in-Ok-open.ensures.opened c.in-Ok-open-2.ensures.opened (c.open.ensures.bytes c.args.second.now) (c.open.ensures.safe c.args.second.now)
+    c.in-Ok-open.ensures.opened c.in-Ok-open-2.ensures.opened (c.open.ensures.bytes c.args.second.now) (c.open.ensures.unfailing c.args.second.now)
     c.in-Ok.ensures c.run_opened-status.ensures.ended _ _
     (files.kept_so c.args.first.now c.args.second.now _ _ _ _ _ _ _ _ same one two (names.0 ∙ c.in-Ok-open.ensures.opened.named)
     (names.1 ∙ c.in-Ok-open-2.ensures.opened.named))
@@ -92,13 +92,13 @@ pub returns-in-Ok-Ok-clause-done : goal.returns-in-Ok-Ok-clause-done
 returns-in-Ok-Ok-clause-done g c =
     let laws = g.met.M.LaneMachine g.world.𝓛 g.world.𝓜 g.world.𝓡 ((λ s x. x), (λ x. x), (λ x. x), λ x. x) in
     files.done turned_lawful g.M.LaneMachine.rules (g.M.LaneMachine.state c.args.machine) c.requires.quiet
-    c.in-Ok-open.ensures.opened c.in-Ok-open-2.ensures.opened (c.open.ensures.bytes c.args.second.now) (c.open.ensures.safe c.args.second.now)
+    c.in-Ok-open.ensures.opened c.in-Ok-open-2.ensures.opened (c.open.ensures.bytes c.args.second.now) (c.open.ensures.unfailing c.args.second.now)
     c.in-Ok.ensures c.run_opened-status.ensures.ended laws.items_stop laws.replies_stop laws.unanswered_puts
 
 pub returns-in-Ok-Ok-clause-only : goal.returns-in-Ok-Ok-clause-only
 returns-in-Ok-Ok-clause-only g c =
     files.only turned_lawful g.M.LaneMachine.rules (g.M.LaneMachine.state c.args.machine) c.requires.quiet
-    c.in-Ok-open.ensures.opened c.in-Ok-open-2.ensures.opened (c.open.ensures.bytes c.args.second.now) (c.open.ensures.safe c.args.second.now)
+    c.in-Ok-open.ensures.opened c.in-Ok-open-2.ensures.opened (c.open.ensures.bytes c.args.second.now) (c.open.ensures.unfailing c.args.second.now)
     c.in-Ok.ensures c.run_opened-status.ensures.ended
 
 pub returns-in-Ok-Ok-clause-open_fault : goal.returns-in-Ok-Ok-clause-open_fault
@@ -106,7 +106,7 @@ returns-in-Ok-Ok-clause-open_fault g c =
     let laws = g.met.M.LaneMachine g.world.𝓛 g.world.𝓜 g.world.𝓡 ((λ s x. x), (λ x. x), (λ x. x), λ x. x) in
     files.none_failed g.M.LaneMachine.rules.name c.args.first.now c.args.second.now c.run_opened-status.result _ _ _ _
     (files.no_open_fault turned_lawful g.M.LaneMachine.rules (g.M.LaneMachine.state c.args.machine) c.requires.quiet
-    c.in-Ok-open.ensures.opened c.in-Ok-open-2.ensures.opened (c.open.ensures.bytes c.args.second.now) (c.open.ensures.safe c.args.second.now)
+    c.in-Ok-open.ensures.opened c.in-Ok-open-2.ensures.opened (c.open.ensures.bytes c.args.second.now) (c.open.ensures.unfailing c.args.second.now)
     c.in-Ok.ensures c.run_opened-status.ensures.ended laws.items_stop laws.replies_stop laws.unanswered_puts)
     (c.close-3.ensures.opens ∙ (c.close-2.ensures.opens ∙ ((rw c.in-Ok-open-2.is at c.open-2.ensures.opens) ∙ (rw c.in-Ok-open.is at c.open.ensures.opens))))
 
@@ -114,14 +114,14 @@ pub returns-in-Ok-Ok-clause-unopened : goal.returns-in-Ok-Ok-clause-unopened
 returns-in-Ok-Ok-clause-unopened g c =
     let laws = g.met.M.LaneMachine g.world.𝓛 g.world.𝓜 g.world.𝓡 ((λ s x. x), (λ x. x), (λ x. x), λ x. x) in
     λ lane is. absurd (files.no_open_fault turned_lawful g.M.LaneMachine.rules (g.M.LaneMachine.state c.args.machine) c.requires.quiet
-    c.in-Ok-open.ensures.opened c.in-Ok-open-2.ensures.opened (c.open.ensures.bytes c.args.second.now) (c.open.ensures.safe c.args.second.now)
+    c.in-Ok-open.ensures.opened c.in-Ok-open-2.ensures.opened (c.open.ensures.bytes c.args.second.now) (c.open.ensures.unfailing c.args.second.now)
     c.in-Ok.ensures c.run_opened-status.ensures.ended laws.items_stop laws.replies_stop laws.unanswered_puts lane is)
 
 pub returns-in-Ok-Ok-clause-write_fault : goal.returns-in-Ok-Ok-clause-write_fault
 returns-in-Ok-Ok-clause-write_fault g c =
     let laws = g.met.M.LaneMachine g.world.𝓛 g.world.𝓜 g.world.𝓡 ((λ s x. x), (λ x. x), (λ x. x), λ x. x) in
     files.write_fault turned_lawful g.M.LaneMachine.rules (g.M.LaneMachine.state c.args.machine) c.requires.quiet
-    c.in-Ok-open.ensures.opened c.in-Ok-open-2.ensures.opened (c.open.ensures.bytes c.args.second.now) (c.open.ensures.safe c.args.second.now)
+    c.in-Ok-open.ensures.opened c.in-Ok-open-2.ensures.opened (c.open.ensures.bytes c.args.second.now) (c.open.ensures.unfailing c.args.second.now)
     c.in-Ok.ensures c.run_opened-status.ensures.ended laws.items_stop laws.replies_stop laws.unanswered_puts
 
 pub returns-in-Ok-Ok-clause-read_fault : goal.returns-in-Ok-Ok-clause-read_fault
@@ -132,7 +132,7 @@ returns-in-Ok-Ok-clause-read_fault g c =
     let two = c.in-Ok-Ok.ensures'.ok in
     let names = c.run_opened-status.ensures.names in
     files.read_fault turned_lawful g.M.LaneMachine.rules (g.M.LaneMachine.state c.args.machine) c.requires.quiet
-    c.in-Ok-open.ensures.opened c.in-Ok-open-2.ensures.opened (c.open.ensures.bytes c.args.second.now) (c.open.ensures.safe c.args.second.now)
+    c.in-Ok-open.ensures.opened c.in-Ok-open-2.ensures.opened (c.open.ensures.bytes c.args.second.now) (c.open.ensures.unfailing c.args.second.now)
     c.in-Ok.ensures c.run_opened-status.ensures.ended laws.items_stop laws.replies_stop laws.unanswered_puts _ _
     (files.first_counted c.args.first.now _ _ _ _ _ _ _ _ same one two (names.0 ∙ c.in-Ok-open.ensures.opened.named))
     (files.second_counted c.args.second.now _ _ _ _ _ _ _ _ same one two (names.1 ∙ c.in-Ok-open-2.ensures.opened.named))
@@ -140,13 +140,13 @@ returns-in-Ok-Ok-clause-read_fault g c =
 pub returns-clause-ended : goal.returns-clause-ended
 returns-clause-ended g c =
     λ other. files.ends_unkept turned_lawful g.M.LaneMachine.rules (g.M.LaneMachine.state c.args.machine) c.requires.quiet
-    c.in-Ok-open.ensures.opened c.in-Ok-open-2.ensures.opened (c.open.ensures.bytes c.args.second.now) (c.open.ensures.safe c.args.second.now)
+    c.in-Ok-open.ensures.opened c.in-Ok-open-2.ensures.opened (c.open.ensures.bytes c.args.second.now) (c.open.ensures.unfailing c.args.second.now)
     c.in-Ok.ensures c.run_opened-status.ensures.ended _ _
 
 pub returns-clause-only : goal.returns-clause-only
 returns-clause-only g c =
     files.only turned_lawful g.M.LaneMachine.rules (g.M.LaneMachine.state c.args.machine) c.requires.quiet
-    c.in-Ok-open.ensures.opened c.in-Ok-open-2.ensures.opened (c.open.ensures.bytes c.args.second.now) (c.open.ensures.safe c.args.second.now)
+    c.in-Ok-open.ensures.opened c.in-Ok-open-2.ensures.opened (c.open.ensures.bytes c.args.second.now) (c.open.ensures.unfailing c.args.second.now)
     c.in-Ok.ensures c.run_opened-status.ensures.ended
 
 pub returns-in_default-clause-open_fault : goal.returns-in_default-clause-open_fault

@@ -32,7 +32,7 @@ items-preserved g c =
       };
     }
 
--- the next is waited for behind those that drove it
+-- the next is waited for after those that drove it
 pub take_next-requires-clause-paced : goal.take_next-requires-clause-paced
 take_next-requires-clause-paced g c =
     let so_far = c.items.invariant.so_far in

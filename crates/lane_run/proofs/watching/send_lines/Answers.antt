@@ -24,17 +24,17 @@ returns-in-Some-clause-ended g c =
     let left = g.S.Source.left in
     let name = g.S.Source.name in
     let faults = g.S.Source.faults in
-    let safe = g.S.Source.safe in
+    let unfailing = g.S.Source.unfailing in
     let first = c.args.source.now in
     let now = c.lines.source in
     let after = c.send_next.new.source in
     record {
       items = i.turned.0;
-      ended = ended_so g.L.Lanes.belongs c.args.lane (lane_state (left first) (name first) (faults first) (safe first))
-          (lane_state (left now) (name now) (faults now) (safe now)) (lane_state (left after) (name after) (faults after) (safe after)) c.lines.reader
+      ended = ended_so g.L.Lanes.belongs c.args.lane (lane_state (left first) (name first) (faults first) (unfailing first))
+          (lane_state (left now) (name now) (faults now) (unfailing now)) (lane_state (left after) (name after) (faults after) (unfailing after)) c.lines.reader
           c.send_next.new.reader i.turned.0 c.in-Some.end i.turned.1
           (Passes-append _ c.lines.reader c.send_next.new.reader _ (left now) _ i.passes c.send_next.ensures.passes) i.later i.named i.safety
-          c.in-Some.ensures.ends c.send_next.ensures.later c.send_next.ensures.name c.send_next.ensures.safe;
+          c.in-Some.ensures.ends c.send_next.ensures.later c.send_next.ensures.name c.send_next.ensures.unfailing;
       state = g.T.Turner.state c.lines.turner;
       turned = rw (ap (λ (s : Sender). s.sent) c.in-Some.ensures.unsent) i.turned.2;
       left = c.in-Some.ensures.left;
@@ -58,5 +58,5 @@ lines-preserved g c =
       counted = omega (arith, i.counted, c.in_default.ensures.near.0, ap length more, length-append c.lines.pass.sent (s.one ∷ []));
       later = omega (arith, i.later, c.send_next.ensures.later);
       named = c.send_next.ensures.name ∙ i.named;
-      safety = c.send_next.ensures.safe ∙ i.safety;
+      safety = c.send_next.ensures.unfailing ∙ i.safety;
     }

@@ -16,7 +16,7 @@ invariant-lines g l = record {
   counted : length l.pass.sent ≤ l.reader.passed;
   later : g.S.Source.faults l.fn.source ≤ g.S.Source.faults l.source;
   named : g.S.Source.name l.source ≡ g.S.Source.name l.fn.source;
-  safety : g.S.Source.safe l.source ≡ g.S.Source.safe l.fn.source;
+  safety : g.S.Source.unfailing l.source ≡ g.S.Source.unfailing l.fn.source;
 }
 
 abbrev pub decreases-lines : goal.decreases-lines

@@ -15,14 +15,14 @@ use Rattle.lane_run.proofs.watching.send_next.Goals as goal
 
 -- the lane ends as its reader does
 ends_unread : {T : Type 0} (belongs : Lane → Event → Bool) (lane : Lane) (now next : Option Input) (held : List ℕ) (left : Option (List ℕ))
-    (before after : ℕ) (safe : Bool) (end : LineEnd) → ((number : ℕ) → end ≡ reader.LineLimit number → EndsAs now (LongLine number))
+    (before after : ℕ) (unfailing : Bool) (end : LineEnd) → ((number : ℕ) → end ≡ reader.LineLimit number → EndsAs now (LongLine number))
     → (IsErrOf {T = T} (Err end) reader.InputLimit → EndsAs now LongInput) → (IsErrOf {T = T} (Err end) reader.ReadFault → Rose before after)
-    → (IsErrOf {T = T} (Err end) reader.ReadFault → HasNoNewline held) → (IsErrOf {T = T} (Err end) reader.ReadFault → safe ≡ false) → Follows now [] next
-    → EndsAt belongs lane now next held left before after safe (end_of end)
-ends_unread belongs lane now next held left before after safe reader.ReadFault long far rose waits unsafe same = (same, waits refl, rose refl, unsafe refl)
-ends_unread belongs lane now next held left before after safe (reader.LineLimit number) long far rose waits unsafe same = long number refl
-ends_unread belongs lane now next held left before after safe reader.InputLimit long far rose waits unsafe same = far refl
-ends_unread belongs lane now next held left before after safe reader.NoMemory long far rose waits unsafe same = tt
+    → (IsErrOf {T = T} (Err end) reader.ReadFault → HasNoNewline held) → (IsErrOf {T = T} (Err end) reader.ReadFault → unfailing ≡ false) → Follows now [] next
+    → EndsAt belongs lane now next held left before after unfailing (end_of end)
+ends_unread belongs lane now next held left before after unfailing reader.ReadFault long far rose waits unsafe same = (same, waits refl, rose refl, unsafe refl)
+ends_unread belongs lane now next held left before after unfailing (reader.LineLimit number) long far rose waits unsafe same = long number refl
+ends_unread belongs lane now next held left before after unfailing reader.InputLimit long far rose waits unsafe same = far refl
+ends_unread belongs lane now next held left before after unfailing reader.NoMemory long far rose waits unsafe same = tt
 
 left_unread : {S : Type 0} (Turns : S → S → Event → Event → Type 0) (s : S) (end : LineEnd) → IsLeft Turns s s (end_of end)
 left_unread Turns s reader.ReadFault = refl
@@ -31,11 +31,11 @@ left_unread Turns s reader.InputLimit = refl
 left_unread Turns s reader.NoMemory = inl refl
 
 -- the lane ends at a line that is none of its items
-ends_unsent : (belongs : Lane → Event → Bool) (lane : Lane) (now next : Option Input) (held : List ℕ) (left : Option (List ℕ)) (before after : ℕ) (safe : Bool)
+ends_unsent : (belongs : Lane → Event → Bool) (lane : Lane) (now next : Option Input) (held : List ℕ) (left : Option (List ℕ)) (before after : ℕ) (unfailing : Bool)
     (line : Line) (end : LaneEnd) → Follows now (line ∷ []) next → IsUnsent belongs lane line end
-    → EndsAt belongs lane now next held left before after safe end
-ends_unsent belongs lane now next held left before after safe line end comes (inl wants) = rw wants tt
-ends_unsent belongs lane now next held left before after safe line end comes (inr (none, is)) =
+    → EndsAt belongs lane now next held left before after unfailing end
+ends_unsent belongs lane now next held left before after unfailing line end comes (inl wants) = rw wants tt
+ends_unsent belongs lane now next held left before after unfailing line end comes (inr (none, is)) =
     rw is (record { line = line; comes = comes; none = none; number_is = refl; bytes_are = refl })
 
 left_unsent : {S : Type 0} (Turns : S → S → Event → Event → Type 0) (s : S) (belongs : Lane → Event → Bool) (lane : Lane) (line : Line) (end : LaneEnd)
@@ -53,7 +53,7 @@ returns-in-Ok-None g c = record {
   near = tt;
   later = c.next_line.ensures.later;
   name = c.next_line.ensures.name;
-  safe = c.next_line.ensures.safe;
+  unfailing = c.next_line.ensures.unfailing;
 }
 
 pub returns-in-Err : goal.returns-in-Err
@@ -62,7 +62,7 @@ returns-in-Err g c = record {
   ends = rw c.end_of.ensures (ends_unread g.L.Lanes.belongs c.args.lane
       (to_come c.args.reader.now (g.S.Source.left c.args.source.now)) (to_come c.next_line.new.self (g.S.Source.left c.next_line.new.source))
       c.next_line.new.self.held (g.S.Source.left c.next_line.new.source)
-      (g.S.Source.faults c.args.source.now) (g.S.Source.faults c.next_line.new.source) (g.S.Source.safe c.args.source.now) c.in-Err.end
+      (g.S.Source.faults c.args.source.now) (g.S.Source.faults c.next_line.new.source) (g.S.Source.unfailing c.args.source.now) c.in-Err.end
       c.in-Err.ensures.line_limit (rw c.in-Err.is at c.next_line.ensures.input_limit) (rw c.in-Err.is at c.next_line.ensures.read_fault)
       (rw c.in-Err.is at c.next_line.ensures.waits) (rw c.in-Err.is at c.next_line.ensures.unsafe_read) c.in-Err.ensures.err);
   unsent = refl;
@@ -71,7 +71,7 @@ returns-in-Err g c = record {
   near = tt;
   later = c.next_line.ensures.later;
   name = c.next_line.ensures.name;
-  safe = c.next_line.ensures.safe;
+  unfailing = c.next_line.ensures.unfailing;
 }
 
 pub returns-in-Err-item_of_line : goal.returns-in-Err-item_of_line
@@ -80,7 +80,7 @@ returns-in-Err-item_of_line g c = record {
   ends = ends_unsent g.L.Lanes.belongs c.args.lane
       (to_come c.args.reader.now (g.S.Source.left c.args.source.now)) (to_come c.next_line.new.self (g.S.Source.left c.next_line.new.source))
       c.next_line.new.self.held (g.S.Source.left c.next_line.new.source)
-      (g.S.Source.faults c.args.source.now) (g.S.Source.faults c.next_line.new.source) (g.S.Source.safe c.args.source.now) c.in-Ok-Some.line
+      (g.S.Source.faults c.args.source.now) (g.S.Source.faults c.next_line.new.source) (g.S.Source.unfailing c.args.source.now) c.in-Ok-Some.line
       c.in-Err-item_of_line.end (rw c.in-Ok-Some.field-0-is at c.in-Ok-Some.ensures.line) c.in-Err-item_of_line.ensures.err;
   unsent = refl;
   left = left_unsent g.T.Turner.Turns (g.T.Turner.state c.args.turner.now) g.L.Lanes.belongs c.args.lane c.in-Ok-Some.line
@@ -89,7 +89,7 @@ returns-in-Err-item_of_line g c = record {
   near = tt;
   later = c.next_line.ensures.later;
   name = c.next_line.ensures.name;
-  safe = c.next_line.ensures.safe;
+  unfailing = c.next_line.ensures.unfailing;
 }
 
 pub returns-in-Err-turn_item : goal.returns-in-Err-turn_item
@@ -102,7 +102,7 @@ returns-in-Err-turn_item g c = record {
   near = tt;
   later = c.next_line.ensures.later;
   name = c.next_line.ensures.name;
-  safe = c.next_line.ensures.safe;
+  unfailing = c.next_line.ensures.unfailing;
 }
 
 pub put_item-requires-clause-room : goal.put_item-requires-clause-room
@@ -129,7 +129,7 @@ returns-then-put_item g c = record {
   near = rw c.in-Ok-Some.field-0-is at c.in-Ok-Some.ensures.near;
   later = c.next_line.ensures.later;
   name = c.next_line.ensures.name;
-  safe = c.next_line.ensures.safe;
+  unfailing = c.next_line.ensures.unfailing;
 }
 
 pub returns-else-put_item : goal.returns-else-put_item
@@ -142,5 +142,5 @@ returns-else-put_item g c = record {
   near = tt;
   later = c.next_line.ensures.later;
   name = c.next_line.ensures.name;
-  safe = c.next_line.ensures.safe;
+  unfailing = c.next_line.ensures.unfailing;
 }

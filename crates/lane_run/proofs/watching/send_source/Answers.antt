@@ -9,7 +9,7 @@ returns-in_default-clause-ended g c =
     record {
       items = [];
       ended = ended_unread g.L.Lanes.belongs c.args.lane
-          (lane_state (g.S.Source.left source) (g.S.Source.name source) (g.S.Source.faults source) (g.S.Source.safe source));
+          (lane_state (g.S.Source.left source) (g.S.Source.name source) (g.S.Source.faults source) (g.S.Source.unfailing source));
       state = _;
       turned = rw c.requires.fresh refl;
       left = inl refl;

@@ -12,7 +12,7 @@ map_push part [] x = refl
 map_push {B = B} part (y ∷ ys) x = ap (λ (rest : List B). part y ∷ rest) (map_push part ys x)
 
 module _ {A E : Type 0} (before after : List A) where
-  -- what was made has the part, and so has the list behind its others
+  -- what was made has the part, and so has the list after its others
   one_made : {B : Type 0} (part : A → B) (b : B) (made : Result A E) → IsOkAnd made (λ item. after ≡ before ++ item ∷ []) → IfOk made (λ item. part item ≡ b)
       → map part after ≡ map part before ++ b ∷ []
   one_made part b (Ok item) pushed is = rw (pushed, map_push part before item, is) refl

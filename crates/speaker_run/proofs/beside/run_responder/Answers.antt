@@ -18,13 +18,13 @@ returns-in_default-clause-responds g c =
     let start = first_state (said_seen c.args.said.now) in
     let files = lane_seen c.args.lanes in
     let bytes = g.F.WatchedFiles.bytes c.args.files.now in
-    let safe = g.F.WatchedFiles.safe c.args.files.now in
+    let unfailing = g.F.WatchedFiles.unfailing c.args.files.now in
     let seen = files_state (g.F.WatchedFiles.failed_opens c.args.files.now) (g.F.WatchedFiles.failed_reads c.args.files.now) in
     let input = source_state (g.S.PacedSource.left c.args.input.now) (g.S.PacedSource.name c.args.input.now) (g.S.PacedSource.faults c.args.input.now) in
     let before = g.K.Sink.written c.args.out.now in
     let writes = g.K.Sink.faults c.args.out.now in
-    responds_short start files bytes safe seen seen input input before before writes writes
-    (responds_not start files bytes safe seen seen input input before before writes writes)
+    responds_short start files bytes unfailing seen seen input input before before writes writes
+    (responds_not start files bytes unfailing seen seen input input before before writes writes)
 
 -- what was seen begins what is published
 pub returns-then-is_shown-clause-responds : goal.returns-then-is_shown-clause-responds

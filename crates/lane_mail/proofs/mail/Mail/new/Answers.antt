@@ -6,7 +6,8 @@ use Rattle.lane_mail.specs.declared.mark.Mark.{Mark}
 use Rattle.lane_mail.specs.Lanes.{item_lane, mark_lane}
 use Rattle.lane_mail.specs.Hands.{may_send, sender, without}
 use Rattle.lane_mail.proofs.Carrying.{begins, forks, forks_beside}
-use Rattle.lane_mail.proofs.Opening.{of_mail, new_lane, new_inbox, new_inboxes}
+use Rattle.lane_mail.specs.Values.{LaneReceiver}
+use Rattle.lane_mail.proofs.Opening.{of_mail, inboxes_of_mail, new_lane, new_inbox, new_inboxes}
 use Rattle.lane_mail.proofs.mail.Mail.new.Goals as goal
 
 pub ruled-requires-clause-rule : goal.ruled-requires-clause-rule
@@ -60,13 +61,13 @@ another-requires-6-clause-rule c =
     forks mark_lane 1 Second _ _ (ap (may_send Second) (c.another-3.ensures.rule.0 ∙ ap (without First) c.in_ok-marks.ensures.3))
 
 -- what is left are those that take
-pub invariant_of-inbox : goal.invariant_of-inbox
-invariant_of-inbox c =
+pub new-requires-3 : goal.new-requires-3
+new-requires-3 c =
     new_inbox First _ c.another-5.new.pass c.another-5.ensures.queue.0
     (c.another-5.ensures.rule.0 ∙ (c.another.ensures.rule.0 ∙ ap (without First) c.in_ok-first_items.ensures.2))
 
-pub invariant_of-inbox-2 : goal.invariant_of-inbox-2
-invariant_of-inbox-2 c =
+pub new-requires-4 : goal.new-requires-4
+new-requires-4 c =
     new_inbox Second _ c.another-4.new.pass c.another-4.ensures.queue.0
     (c.another-4.ensures.rule.0 ∙ ap (without Second) (c.another-2.ensures.rule.0 ∙ c.in-Ok.ensures.2))
 
@@ -82,11 +83,13 @@ invariant_of-second c =
     (c.another-4.ensures.rule.1 ∙ ap (λ (h : Hand Item). sender Second h.sent) (c.another-2.ensures.rule.0 ∙ c.in-Ok.ensures.2))
     (c.another-6.ensures.rule.1 ∙ ap (λ (h : Hand Mark). sender Second h.sent) (c.another-3.ensures.rule.0 ∙ ap (without First) c.in_ok-marks.ensures.3))
 
-pub invariant_of-inbox-3 : goal.invariant_of-inbox-3
-invariant_of-inbox-3 c =
-    new_inboxes _ _ c.another-6.new.pass refl refl
-    (ap (λ (h : Hand Item). h.got) (c.another-5.ensures.rule.0 ∙ (c.another.ensures.rule.0 ∙ ap (without First) c.in_ok-first_items.ensures.2)))
-    (ap (λ (h : Hand Item). h.got) (c.another-4.ensures.rule.0 ∙ ap (without Second) (c.another-2.ensures.rule.0 ∙ c.in-Ok.ensures.2)))
+pub invariant_of-inbox : goal.invariant_of-inbox
+invariant_of-inbox c =
+    new_inboxes _ _ c.another-6.new.pass (ap (λ (r : LaneReceiver). r.lane) c.new-3.ensures) (ap (λ (r : LaneReceiver). r.lane) c.new-4.ensures)
+    (ap (λ (r : LaneReceiver). r.taken) c.new-3.ensures
+    ∙ ap (λ (h : Hand Item). h.got) (c.another-5.ensures.rule.0 ∙ (c.another.ensures.rule.0 ∙ ap (without First) c.in_ok-first_items.ensures.2)))
+    (ap (λ (r : LaneReceiver). r.taken) c.new-4.ensures
+    ∙ ap (λ (h : Hand Item). h.got) (c.another-4.ensures.rule.0 ∙ ap (without Second) (c.another-2.ensures.rule.0 ∙ c.in-Ok.ensures.2)))
     (c.another-6.ensures.queue.0.2 ∙ (c.another-3.ensures.queue.0.2 ∙ c.in_ok-marks.ensures.1.1))
     (c.another-6.ensures.rule.0 ∙ ap (without Second) (c.another-3.ensures.rule.0 ∙ ap (without First) c.in_ok-marks.ensures.3))
 
@@ -95,7 +98,8 @@ returns-clause-mail c =
     let table = c.another-3.ensures.queue.0.0 ∙ c.in_ok-marks.ensures.1.0 in (
       of_mail _ _ _ _ c.another.result c.another-2.result c.another.ensures.queue.2 c.another-2.ensures.queue.2 c.another-3.ensures.queue.1.0,
       of_mail _ _ _ _ c.another-5.result c.another-4.result c.another-5.ensures.queue.2 c.another-4.ensures.queue.2 c.another-6.ensures.queue.1.0,
-      of_mail _ _ _ _ c.another-5.new.pass c.another-4.new.pass c.another-5.ensures.queue.0 c.another-4.ensures.queue.0
+      inboxes_of_mail _ _ _ _ _ _ c.another-5.new.pass c.another-4.new.pass (ap (λ (r : LaneReceiver). r.queue) c.new-3.ensures)
+          (ap (λ (r : LaneReceiver). r.queue) c.new-4.ensures) c.another-5.ensures.queue.0 c.another-4.ensures.queue.0
           (c.another-6.ensures.queue.0.0 ∙ table),
     )
 
@@ -108,6 +112,8 @@ returns-clause-sent c = (
 
 pub returns-clause-taken : goal.returns-clause-taken
 returns-clause-taken c = (
-  ap (λ (h : Hand Item). h.got) (c.another-5.ensures.rule.0 ∙ (c.another.ensures.rule.0 ∙ ap (without First) c.in_ok-first_items.ensures.2)),
-  ap (λ (h : Hand Item). h.got) (c.another-4.ensures.rule.0 ∙ ap (without Second) (c.another-2.ensures.rule.0 ∙ c.in-Ok.ensures.2)),
+  ap (λ (r : LaneReceiver). r.taken) c.new-3.ensures
+      ∙ ap (λ (h : Hand Item). h.got) (c.another-5.ensures.rule.0 ∙ (c.another.ensures.rule.0 ∙ ap (without First) c.in_ok-first_items.ensures.2)),
+  ap (λ (r : LaneReceiver). r.taken) c.new-4.ensures
+      ∙ ap (λ (h : Hand Item). h.got) (c.another-4.ensures.rule.0 ∙ ap (without Second) (c.another-2.ensures.rule.0 ∙ c.in-Ok.ensures.2)),
 )

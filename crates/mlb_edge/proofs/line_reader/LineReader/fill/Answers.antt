@@ -53,8 +53,8 @@ returns-in_err-make_room-clause-name g c = refl
 pub returns-in_err-make_room-clause-later : goal.returns-in_err-make_room-clause-later
 returns-in_err-make_room-clause-later g c = omega arith
 
-pub returns-in_err-make_room-clause-safe : goal.returns-in_err-make_room-clause-safe
-returns-in_err-make_room-clause-safe g c = refl
+pub returns-in_err-make_room-clause-unfailing : goal.returns-in_err-make_room-clause-unfailing
+returns-in_err-make_room-clause-unfailing g c = refl
 
 pub returns-in_err-make_room-clause-cause : goal.returns-in_err-make_room-clause-cause
 returns-in_err-make_room-clause-cause g c =
@@ -77,14 +77,14 @@ returns-in_err-count-clause-name g c = c.read_behind.ensures.name
 pub returns-in_err-count-clause-later : goal.returns-in_err-count-clause-later
 returns-in_err-count-clause-later g c = c.read_behind.ensures.cause.later
 
-pub returns-in_err-count-clause-safe : goal.returns-in_err-count-clause-safe
-returns-in_err-count-clause-safe g c = c.read_behind.ensures.safe
+pub returns-in_err-count-clause-unfailing : goal.returns-in_err-count-clause-unfailing
+returns-in_err-count-clause-unfailing g c = c.read_behind.ensures.unfailing
 
 pub returns-in_err-count-clause-cause : goal.returns-in_err-count-clause-cause
 returns-in_err-count-clause-cause g c = λ e. c.in_err-count.ensures.cause.failed
 
 pub returns-in_err-count-clause-unsafe_read : goal.returns-in_err-count-clause-unsafe_read
-returns-in_err-count-clause-unsafe_read g c = λ e. false_from_ne_true _ (λ safe. false≢true (c.in_err-count.ensures.well safe))
+returns-in_err-count-clause-unsafe_read g c = λ e. false_from_ne_true _ (λ unfailing. false≢true (c.in_err-count.ensures.well unfailing))
 
 pub returns-in_err-count-clause-fault : goal.returns-in_err-count-clause-fault
 returns-in_err-count-clause-fault g c =
@@ -97,8 +97,8 @@ returns-clause-name g c = c.read_behind.ensures.name
 pub returns-clause-later : goal.returns-clause-later
 returns-clause-later g c = c.read_behind.ensures.cause.later
 
-pub returns-clause-safe : goal.returns-clause-safe
-returns-clause-safe g c = c.read_behind.ensures.safe
+pub returns-clause-unfailing : goal.returns-clause-unfailing
+returns-clause-unfailing g c = c.read_behind.ensures.unfailing
 
 pub returns-clause-cause : goal.returns-clause-cause
 returns-clause-cause g c = λ e. absurd (cc)

@@ -18,7 +18,7 @@ loop-len-preserved-in-Some g c =
     let held : c.held.result.now ≡ c.loop-len.self.held = c.held.ensures ∙ ap (λ (r : Reading). r.held) c.first_row.ensures.same in
     let blank : is_blank (take c.in-Some.len c.loop-len.self.held) ≡ true = rw (← held) (sym c.is_blank.ensures ∙ c.if-not-is_blank.false) in
     rw (c.pass.ensures, c.first_row.ensures.same)
-    (going_past g.S.Source.left g.S.Source.name g.S.Source.faults g.S.Source.safe c.args.self.now c.loop-len.self c.args.source.now c.loop-len.source
+    (going_past g.S.Source.left g.S.Source.name g.S.Source.faults g.S.Source.unfailing c.args.self.now c.loop-len.self c.args.source.now c.loop-len.source
     c.loop-len.is_last c.in-Some.len c.in-Some.size
     i c.in-Some.ensures.row near.0 near.1 blank)
 
@@ -35,10 +35,10 @@ loop-len-preserved g c =
     let i = c.loop-len.invariant in
     let read = rw c.first_row.ensures.same at c.in_ok-is_last-in-None-2.ensures.bytes in
     let same = rw c.first_row.ensures.same at c.fill.ensures.same in
-    going_read g.S.Source.left g.S.Source.name g.S.Source.faults g.S.Source.safe c.args.self.now c.loop-len.self c.fill.new.self c.args.source.now
+    going_read g.S.Source.left g.S.Source.name g.S.Source.faults g.S.Source.unfailing c.args.self.now c.loop-len.self c.fill.new.self c.args.source.now
     c.loop-len.source c.fill.new.source c.loop-len.is_last _ read.0
     i c.in-None.ensures.none read.3 read.1 same.0 same.1 (λ zero. c.in_ok-is_last-in-None-2.ensures.end (eqb-true _ _ zero)) c.fill.ensures.later
-    c.fill.ensures.name c.fill.ensures.safe
+    c.fill.ensures.name c.fill.ensures.unfailing
 
 pub loop-len-init : goal.loop-len-init
 loop-len-init g c = record {
@@ -79,7 +79,7 @@ returns-in_err-check-in-Some g c =
       unread = λ holds. (i.untouched holds).1;
       later = i.later;
       name = i.named;
-      safe = i.safety;
+      unfailing = i.safety;
       unsafe_read = λ e. absurd (limit_not_read c.in_err-check-in-Some.field-0.0 limit.fault (same_end _ _ e));
     })
 
@@ -104,7 +104,7 @@ returns-in_err-take-in-Some g c =
       unread = λ holds. (i.untouched holds).1;
       later = i.later;
       name = i.named;
-      safe = i.safety;
+      unfailing = i.safety;
       unsafe_read = λ e. absurd (memory_not_read (same_end _ _ e));
     })
 
@@ -134,7 +134,7 @@ returns-then-not-is_blank g c =
       unread = λ holds. (i.untouched holds).1;
       later = i.later;
       name = i.named;
-      safe = i.safety;
+      unfailing = i.safety;
       unsafe_read = λ e. absurd (given_not_err _ _ e);
     })
 
@@ -159,7 +159,7 @@ returns-in-None g c =
       unread = λ holds. (i.untouched holds).1;
       later = i.later;
       name = i.named;
-      safe = i.safety;
+      unfailing = i.safety;
       unsafe_read = λ e. absurd (given_not_err _ _ e);
     })
 
@@ -186,7 +186,7 @@ returns-in_err-check_open-in-None-2 g c =
       unread = λ holds. (i.untouched holds).1;
       later = i.later;
       name = i.named;
-      safe = i.safety;
+      unfailing = i.safety;
       unsafe_read = λ e. absurd (limit_not_read _ tt (same_end _ _ e));
     })
 
@@ -214,6 +214,6 @@ returns-in_err-is_last-in-None-2 g c =
       unread = λ holds. absurd (none_held c.loop-len.self c.in-None.ensures.none (i.untouched holds).2);
       later = omega (arith, i.later, c.fill.ensures.later);
       name = c.fill.ensures.name ∙ i.named;
-      safe = c.fill.ensures.safe ∙ i.safety;
+      unfailing = c.fill.ensures.unfailing ∙ i.safety;
       unsafe_read = λ e. sym i.safety ∙ fault.unsafe_read (ap Err (same_end _ _ e));
     })

@@ -109,6 +109,8 @@ def add_speaker(one: argparse.ArgumentParser) -> None:
     one.add_argument("--link", action="append", default=[], metavar="NAME=FOLDER",
                      help="that interface is the datagram socket FOLDER/NODE-NAME, and what it "
                           "sends goes to FOLDER/hub (for tests)")
+    one.add_argument("--responder", action="store_true",
+                     help="frames are answered on a thread of their own")
     one.add_argument("--next-hop", help="the IPv4 address that routes lead to")
     one.add_argument("--next-hop-v6",
                      help="the IPv6 address that IPv6 routes lead to, beside a next hop of IPv4")

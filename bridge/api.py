@@ -1,5 +1,6 @@
-"""Requests to an API server: HTTP/1.1, one connection a request, by TLS with a token or a
-client's certificate, or plainly as `kubectl proxy` takes them.
+"""Requests to an API server: HTTP/1.1, by TLS with a token or a client's certificate, or plainly
+as `kubectl proxy` takes them. Each request has a connection of its own, but that by TLS one is kept
+for the next, since to make it costs more than to ask.
 
 Whether an answer is whole is told by its form alone (RFC 9112, section 6). What isn't answered
 whole may have been carried out or not, or may be later; who asks for a change finds out by
@@ -13,7 +14,7 @@ import pathlib
 import socket
 import ssl
 import urllib.parse
-from collections.abc import AsyncGenerator, AsyncIterator, Callable, Iterator
+from collections.abc import AsyncGenerator, AsyncIterator, Iterator
 from dataclasses import dataclass
 from typing import Any
 
@@ -26,8 +27,9 @@ USER_TIMEOUT = 18  # TCP_USER_TIMEOUT of Linux (RFC 5482), which not every Pytho
 IDLE = 15  # seconds without a segment until the other side is probed
 PROBE, PROBES = 5, 3  # seconds between probes, and probes without answer until it counts as gone
 ANSWER_WAIT = 120.0  # seconds for an answer
-SILENCE = 90.0  # and in which something of a watch must come: servers send a bookmark each minute
 LOST_TOLD = 60.0  # seconds until a server that can't be reached is told of again
+KEPT, KEPT_SECONDS = 4, 20.0  # connections that are kept, and for how long without a request
+Ends = tuple[asyncio.StreamReader, asyncio.StreamWriter]
 Json = dict[str, Any]
 
 
@@ -106,6 +108,7 @@ class Api:
         self.files = trust, certificate, key
         self.reach = Reach(server)
         self.contexts: tuple[list[int], ssl.SSLContext] | None = None
+        self.kept: list[tuple[float, Ends]] = []
 
     def tls(self) -> ssl.SSLContext | None:
         """The context of a connection, made anew where one of its files was written anew."""
@@ -124,7 +127,8 @@ class Api:
                   kind: str = "application/json", wait: float = ANSWER_WAIT) -> Answer:
         """A request and its answer, which must be whole within so many seconds."""
         sent = b"" if body is None else json.dumps(body).encode()
-        async with self.exchange(method, path, sent, kind, wait) as (status, headers, pieces):
+        async with self.exchange(method, path, sent, kind, wait, self.is_tls) as (
+                status, headers, pieces):
             with whole():
                 async with asyncio.timeout(wait):
                     text = b"".join([piece async for piece in pieces])
@@ -149,10 +153,9 @@ class Api:
                 return octets.decode(errors="replace") if status == 200 else None
         return None
 
-    async def lines(self, path: str,
-                    silence: Callable[[], float] = lambda: SILENCE) -> AsyncGenerator[bytes, None]:
-        """The lines of a watch as they come, until it ends. It counts as broken where nothing
-        comes of it for so many seconds, as `silence` tells anew for each piece."""
+    async def lines(self, path: str, silence: float) -> AsyncGenerator[bytes, None]:
+        """The lines of a watch as they come, until it ends, or nothing came for so many
+        seconds."""
         async with self.exchange("GET", path) as (status, headers, pieces):
             if status != 200:
                 with whole():
@@ -160,7 +163,7 @@ class Api:
                         text = b"".join([piece async for piece in pieces])
                 raise Refused(status, message_of(text), seconds_of(headers))
             rest = b""
-            while piece := await next_of(pieces, silence()):
+            while piece := await next_of(pieces, silence):
                 *lines, rest = (rest + piece).split(b"\n")
                 for line in lines:
                     yield line + b"\n"
@@ -192,12 +195,15 @@ class Api:
     @contextlib.asynccontextmanager
     async def exchange(
             self, method: str, path: str, body: bytes = b"", kind: str = "application/json",
-            wait: float = ANSWER_WAIT
+            wait: float = ANSWER_WAIT, keeps: bool = False
     ) -> AsyncIterator[tuple[int, dict[str, str], AsyncIterator[bytes]]]:
-        """The status and the headers of the answer, and the pieces of its body."""
+        """The status and the headers of the answer, and the pieces of its body. `keeps`: these are
+        read to their end, and another request may come by the connection."""
+        headers: dict[str, str] = {}
+        is_whole = False
         try:
-            head = self.head(method, path, body, kind)
-            reader, writer = await self.connected()
+            head = self.head(method, path, body, kind, keeps)
+            reader, writer = keeps and self.found() or await self.connected()
         except OSError as fault:
             self.reach.lost(str(fault) or "no connection came about")
             raise NotSent(str(fault) or "no connection came about") from fault
@@ -207,20 +213,36 @@ class Api:
                     writer.write(head + body)
                     await writer.drain()
                     status = int((await reader.readline()).split()[1])
-                    headers: dict[str, str] = {}
                     while line := (await reader.readline()).strip():
                         name, _, value = line.decode().partition(":")
                         headers[name.lower()] = value.strip()
             if status < 500:
                 self.reach.answered()
             yield status, headers, pieces_of(reader, headers)
+            is_whole = keeps and goes_on(headers)
         except Broken as fault:
             self.reach.lost(str(fault))
             raise
         finally:
-            writer.close()
+            if is_whole and len(self.kept) < KEPT:
+                self.kept.append((asyncio.get_running_loop().time(), (reader, writer)))
+            else:
+                writer.close()
 
-    async def connected(self) -> tuple[asyncio.StreamReader, asyncio.StreamWriter]:
+    def found(self) -> Ends | None:
+        """A connection that was kept, where the server hasn't ended it and its files are those of
+        now."""
+        now, context = asyncio.get_running_loop().time(), self.tls()
+        while self.kept:
+            since, (reader, writer) = self.kept.pop()
+            is_open = not reader.at_eof() and not writer.is_closing()
+            is_same = writer.get_extra_info("sslcontext") is context
+            if is_open and is_same and now - since < KEPT_SECONDS:
+                return reader, writer
+            writer.close()
+        return None
+
+    async def connected(self) -> Ends:
         """A connection on which the other side is probed while nothing comes, and which ends
         where what was sent isn't taken note of."""
         async with asyncio.timeout(CONNECT_WAIT):
@@ -234,7 +256,7 @@ class Api:
             end.setsockopt(socket.IPPROTO_TCP, option, value)
         return reader, writer
 
-    def head(self, method: str, path: str, body: bytes, kind: str) -> bytes:
+    def head(self, method: str, path: str, body: bytes, kind: str, keeps: bool) -> bytes:
         """The head of a request. Its number grows with the time, so that a server's log shows
         which of two came first, whichever is read first."""
         host = f"[{self.host}]" if ":" in self.host else self.host
@@ -244,7 +266,8 @@ class Api:
         lines = [f"{method} {self.prefix}{path} HTTP/1.1", f"Host: {host}:{self.port}", *known,
                  f"User-Agent: {self.agent}", f"X-Request-Id: {number}",
                  "Accept: application/json", f"Content-Type: {kind}",
-                 f"Content-Length: {len(body)}", "Connection: close", "", ""]
+                 f"Content-Length: {len(body)}",
+                 f"Connection: {'keep-alive' if keeps else 'close'}", "", ""]
         return "\r\n".join(lines).encode()
 
 
@@ -280,9 +303,17 @@ def whole() -> Iterator[None]:
 
 
 async def next_of(pieces: AsyncIterator[bytes], silence: float) -> bytes:
-    with whole():
+    """The next piece, or none where there is none for so many seconds."""
+    with contextlib.suppress(Silent), whole():
         async with asyncio.timeout(silence):
             return await anext(pieces, b"")
+    return b""
+
+
+def goes_on(headers: dict[str, str]) -> bool:
+    """Whether the server takes another request by the connection of this answer."""
+    ends = "content-length" in headers or headers.get("transfer-encoding") == "chunked"
+    return ends and headers.get("connection", "").lower() != "close"
 
 
 async def pieces_of(reader: asyncio.StreamReader, headers: dict[str, str]) -> AsyncIterator[bytes]:
@@ -292,6 +323,8 @@ async def pieces_of(reader: asyncio.StreamReader, headers: dict[str, str]) -> As
         while size := int((await reader.readline()).split(b";")[0], 16):
             yield await reader.readexactly(size)
             await reader.readline()
+        while (await reader.readline()).strip():
+            pass  # trailers
     elif "content-length" in headers:
         yield await reader.readexactly(int(headers["content-length"]))
     else:

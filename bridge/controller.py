@@ -115,7 +115,7 @@ class Controller:
         services = Watches(self.api, program.lanes["service"], SERVICE_PATHS, fault_of,
                            puts.until_quiet, note_service)
         guard = PoolGuard(options.namespace, options.lb_class, options.without_pools,
-                          services.lists["Service"])
+                          services.lists["Service"], puts.giving)
         config = Watches(self.api, program.lanes["config"], config_paths(options.namespace),
                          fault_of, None, note_config, guard)
         await together(config.keep(), services.keep())

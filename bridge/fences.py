@@ -97,7 +97,7 @@ class Fences:
     def __init__(self, api: Api) -> None:
         self.api = api
         self.owed: dict[Name, asyncio.Event] = {}  # each with what is set once it is fenced
-        self.chased: set[Name] = set()
+        self.chased: dict[Name, None] = {}  # in their order
         self.deleted: dict[Key, None] = {}  # services that were shown to be gone, in their order
         self.past: dict[Key, int] = {}  # no put at this version or before can be stored any more
         self.news = asyncio.Event()
@@ -128,7 +128,7 @@ class Fences:
             self.past[key] = version
         for name in [name for name in self.owed if name.key == key and name.version <= version]:
             self.owed.pop(name).set()
-            self.chased.discard(name)
+            self.chased.pop(name, None)
 
     def note(self, event: Json) -> None:
         """A service was shown, or its deletion, which has a later version than it had."""
@@ -159,7 +159,7 @@ class Fences:
     def chase(self, name: Name) -> None:
         """Has the put fenced by `keep`."""
         if name in self.owed:
-            self.chased.add(name)
+            self.chased[name] = None
             self.news.set()
 
     async def until_fenced(self, names: Iterable[Name]) -> None:

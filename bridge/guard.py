@@ -4,9 +4,11 @@ made anew. So while services hold addresses, a list without any pool isn't ended
 of the last pool isn't given. Each is told, with what to do; who means it says so."""
 import asyncio
 import logging
+import math
 from typing import Any
 
 from api import Json
+from fences import Key, version_of
 
 LOG = logging.getLogger("bridge")
 TOLD = 60.0  # seconds until it is told again
@@ -34,13 +36,14 @@ def holds_address(service: Json, lb_class: str | None) -> bool:
 
 class PoolGuard:
     """Told of each service and each pool that is shown. `listed` is set while the services' list
-    has ended."""
+    has ended. `giving` are services that a put may have given addresses, each with the version that
+    it was made at, which aren't shown at a later one yet."""
 
     def __init__(self, namespace: str, lb_class: str | None, is_meant: bool,
-                 listed: asyncio.Event) -> None:
+                 listed: asyncio.Event, giving: dict[Key, int] | None = None) -> None:
         self.namespace, self.lb_class, self.is_meant = namespace, lb_class, is_meant
-        self.listed = listed
-        self.holders: set[tuple[str, str]] = set()
+        self.listed, self.giving = listed, {} if giving is None else giving
+        self.holders: set[Key] = set()
         self.pools: set[str] = set()  # those that the program was shown, and not the deletion of
         self.withheld: Given | None = None  # the deletion of the last one
         self.told = -TOLD
@@ -51,6 +54,8 @@ class PoolGuard:
         if event["type"] in ("ADDED", "MODIFIED", "DELETED") and thing["kind"] == "Service":
             key = thing["metadata"]["namespace"], thing["metadata"]["name"]
             self.holders.discard(key)
+            if version_of(thing) > self.giving.get(key, math.inf):
+                del self.giving[key]
             if event["type"] != "DELETED" and holds_address(thing, self.lb_class):
                 self.holders.add(key)
 
@@ -60,12 +65,14 @@ class PoolGuard:
         self.withheld = None
 
     def begin_services(self) -> None:
-        """The list of services begins anew."""
+        """The list of services begins anew, behind all puts."""
         self.holders.clear()
+        self.giving.clear()
 
     def is_at_risk(self) -> bool:
         """Whether some service may hold an address, and nobody means it to be taken."""
-        return not self.is_meant and (bool(self.holders) or not self.listed.is_set())
+        holds = bool(self.holders or self.giving) or not self.listed.is_set()
+        return holds and not self.is_meant
 
     async def end_list(self, is_empty: bool) -> None:
         """The list of pools is to end. `NotYet`: it has none, and there are services that hold
@@ -111,4 +118,4 @@ class PoolGuard:
             LOG.error("no IPAddressPool in the namespace %s, while %d services hold addresses, "
                       "which would be taken from them: %s. Make a pool, or name the right "
                       "namespace (--namespace); who means it says --without-pools",
-                      self.namespace, len(self.holders), what)
+                      self.namespace, len(self.holders | self.giving.keys()), what)

@@ -1,21 +1,23 @@
 """Puts: the controller's writes of a service's status, one at a time, each once the Lease names it.
 
-The answer 200 at a later version is `ok`. Whatever else becomes of a put that was sent, an answer
-that it wasn't stored too, leaves open whether it was or will be: something between may have sent
-it twice. So it is fenced (fences.py), and `unknown` is said. One that can't be fenced is told
-`unknown` as well; it stays named in the Lease until it is, and until then services aren't listed
-anew. Of a put that isn't sent `stale` is said: it is behind, or waits (refusals.py). The controller
-counts what a service may have by a put answered `unknown` as its own until it is shown at a later
-version. `missing` is never said: that the service's deletion is shown comes to the same.
+The answer 200 at a later version, with what was put and its fresh text, is `ok`. Whatever else
+becomes of a put that was sent, an answer that it wasn't stored too, leaves open whether it was or
+will be: something between may have sent it twice. So it is fenced (fences.py), and `unknown` is
+said. One that can't be fenced is told `unknown` as well; it stays named in the Lease until it is,
+and until then services aren't listed anew. Of a put that isn't sent `stale` is said: it is behind,
+or waits (refusals.py). The controller counts what a service may have by a put answered `unknown` as
+its own until it is shown at a later version. `missing` is never said: that the service's deletion
+is shown comes to the same.
 """
 import asyncio
 import logging
 from dataclasses import dataclass
+from typing import Any
 
 from ahead import Ahead
 from api import Answer, Api, Broken, Json, NotSent, Silent
 from events import Events
-from fences import FENCE, PATCH, Fences, Name, version_of
+from fences import FENCE, PATCH, Fences, Key, Name, version_of
 from host import fresh
 from refusals import Refusals
 from turns import Turn
@@ -67,12 +69,27 @@ class Fault:
     wait: float = 0.0
 
 
-def fault_of(answer: Answer, put: Json) -> Fault | None:
+def shows(service: Json, patch: Json) -> bool:
+    """Whether a service has what a patch of it says: so an answer is that of this patch, whatever
+    came between, and nothing was taken out."""
+    notes = service["metadata"].get("annotations") or {}
+    status: Any = service.get("status") or {}
+    ingress = (status.get("loadBalancer") or {}).get("ingress") or []
+    wanted: Json = patch["metadata"]["annotations"]
+    return ({name: notes.get(name) for name in wanted} == wanted
+            and [one.get("ip") for one in ingress]
+            == [one["ip"] for one in patch["status"]["loadBalancer"]["ingress"]])
+
+
+def fault_of(answer: Answer, put: Json, patch: Json) -> Fault | None:
     """Why the answer isn't that the put is stored, or nothing."""
     if answer.status == 200:
-        if version_of(answer.value) > put["version"]:
-            return None
-        return Fault("200, but its version stays: something takes the change out", is_final=True)
+        if version_of(answer.value) <= put["version"]:
+            return Fault("200, but its version stays: something takes the change out",
+                         is_final=True)
+        if not shows(answer.value, patch):
+            return Fault("200, but without what was put: something takes it out", is_final=True)
+        return None
     wait = 0.0
     if answer.status in BUSY:
         wait = min(LONGEST_WAIT, max(SHORTEST_WAIT, answer.retry_after or 0.0))
@@ -89,6 +106,9 @@ class Puts:
         self.ahead, self.events, self.counts = ahead, events, counts
         self.loop = asyncio.get_running_loop()
         self.request: asyncio.Task[Json] | None = None
+        # Services that were sent a put with addresses, each at its version, until they are shown
+        # at a later one: the watch may be behind.
+        self.giving: dict[Key, int] = {}
 
     async def reply(self, put: Json) -> Json:
         """The reply to a put. Its request goes on to its end, also where nobody waits for the
@@ -110,6 +130,8 @@ class Puts:
             ahead = self.ahead.names(self.loop.time())
             await self.turn.have(dict.fromkeys([name, *self.fences.owed, *ahead]))
         self.fences.sent(name)
+        if put["addresses"]:
+            self.giving[name.key] = name.version
         self.ahead.done(name.key)
         answer, fault = await self.send(name, put)
         if fault is None:
@@ -123,22 +145,23 @@ class Puts:
         await asyncio.sleep(fault.wait)
         if fault.is_unsent:
             self.fences.unsent(name)
+            self.giving.pop(name.key, None)
             return UNKNOWN
         LOG.debug("%s: %s; it is fenced", name, fault.why)
         tried = await self.fences.attempt(name)
         self.fences.chase(name)
         if fault.is_final or not fault.is_lost and (tried.touched or not tried.fenced):
             self.refusals.refused(name, fault.why, fault.is_final, fault.is_of_all)
-            self.events.refused(put, fault.why)
+            self.events.refusal(put, fault.why)
         return UNKNOWN
 
     async def send(self, name: Name, put: Json) -> tuple[Answer, Fault | None]:
         """What came of the put's one request."""
         nothing = Answer(0, {})
         try:
-            path = name.path + "/status"
-            answer = await self.api.ask("PATCH", path, patch_of(put), PATCH, PUT_WAIT)
-            return answer, fault_of(answer, put)
+            path, patch = name.path + "/status", patch_of(put)
+            answer = await self.api.ask("PATCH", path, patch, PATCH, PUT_WAIT)
+            return answer, fault_of(answer, put, patch)
         except Silent as fault:
             return nothing, Fault(str(fault), is_final=True, is_of_all=True)
         except Broken as fault:

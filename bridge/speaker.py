@@ -10,9 +10,11 @@ import logging
 from collections.abc import Awaitable, Callable, Iterator, Mapping
 from typing import Any, Protocol
 
+from announcements import Announcements
 from api import Api, Broken
 from bgp import IPV4, IPV6
 from common import Stop, api_of, together
+from events import Events
 from figures import SpeakerFigures, figures_served
 from heartbeats import HeartbeatMembers, Port, Secret
 from leases import Give, LeaseMembers
@@ -24,6 +26,7 @@ from reading import reading
 from watches import SERVICE_PATHS, SPEAKER_PATHS, Watches, config_paths
 
 LOG = logging.getLogger("bridge")
+COMPONENT = "sutchebam-speaker"
 LINKS_LOOK = 1.0  # seconds until the interfaces are looked at again, where the kernel tells nothing
 LINKS_SETTLE = 0.1  # seconds between two looks
 RECEIVE_PAUSE = 1.0  # seconds until a link that can't be read is tried again
@@ -47,8 +50,10 @@ class Run:
     """One run of the program."""
 
     def __init__(self, program: Program, links: dict[str, AnyLink], peers: Peers,
-                 options: argparse.Namespace) -> None:
+                 options: argparse.Namespace,
+                 announcements: Announcements | None = None) -> None:
         self.program, self.links, self.peers, self.options = program, links, peers, options
+        self.announcements = announcements
         self.neighbors = Neighbors(links)
         self.accepted = asyncio.Event()  # whether a configuration is in force
         self.before: set[str] = set()  # the members that were given last
@@ -60,6 +65,8 @@ class Run:
         await asyncio.Future()  # until the program is known to have ended
 
     def take(self, line: Mapping[str, Any]) -> None:
+        if line["op"] in ("announce", "withdraw", "update"):
+            self.look_soon()
         match line["op"]:
             case "took":
                 self.neighbors.took()
@@ -81,6 +88,19 @@ class Run:
                 self.neighbors.send(line["interface"], bytes.fromhex(line["bytes"]))
             case "update":
                 self.peers.update(line["peer"], bytes.fromhex(line["bytes"]))
+
+    def look_soon(self) -> None:
+        """What is announced changes."""
+        if self.announcements:
+            self.announcements.news.set()
+
+    def look(self) -> None:
+        """Has it told what is announced, once the program has told all."""
+        if self.announcements and self.peers.is_whole:
+            tables = list(self.peers.tables.values())
+            narrow, wide = ({prefix for table in tables for prefix in table.routes[family]}
+                            for family in (IPV4, IPV6))
+            self.announcements.look(self.neighbors.repeats, narrow, wide)
 
     async def pass_frames(self, link: AnyLink) -> None:
         """Gives the frames that a link received. Those that come while the pipe is full are lost,
@@ -133,6 +153,7 @@ class Run:
         returned, self.before = set(names) - self.before, set(names)
         await lane.until_taken(number)
         self.peers.whole()
+        self.look_soon()
         if returned:
             self.neighbors.tell_again()
 
@@ -142,6 +163,7 @@ def command_of(options: argparse.Namespace, links: Mapping[str, AnyLink]) -> lis
     words += [f"--interface={link.name}={link.hardware}" for link in links.values()]
     words += [f"--next-hop={options.next_hop}"] if options.next_hop else []
     words += [f"--next-hop-v6={options.next_hop_v6}"] if options.next_hop_v6 else []
+    words += ["--responder"] if options.responder else []
     return words + ([f"--lb-class={options.lb_class}"] if options.lb_class else [])
 
 
@@ -176,22 +198,25 @@ def members_of(api: Api, options: argparse.Namespace) -> AnyMembers:
 
 
 async def run_once(options: argparse.Namespace, api: Api, members: AnyMembers,
-                   links: dict[str, AnyLink], peers: Peers, figures: SpeakerFigures) -> bool:
+                   links: dict[str, AnyLink], peers: Peers, figures: SpeakerFigures,
+                   announcements: Announcements) -> bool:
     """The program from its start to its end, and whether it took anything."""
     peers.begin()
 
     def note(number: int, event: Mapping[str, Any]) -> None:
         peers.note(number, event)
         members.note(event)
+        announcements.note(event)
 
     command, lanes = command_of(options, links), ["watch", "frame"]
     async with reading(options.admit) as reader, started(command, lanes, options) as program:
-        run = Run(program, links, peers, options)
+        run = Run(program, links, peers, options, announcements)
         watch = program.lanes["watch"]
         figures.begin(program, run.neighbors, peers)
         paths = config_paths(options.namespace) | SERVICE_PATHS | SPEAKER_PATHS
         watches = Watches(api, watch, paths, reader.fault_of, note=note)
         members.note(ANEW)
+        announcements.note(ANEW)
 
         async def give() -> None:
             await program.open()
@@ -199,7 +224,8 @@ async def run_once(options: argparse.Namespace, api: Api, members: AnyMembers,
             await together(watches.keep(), run.pass_members(members, watches), *frames)
 
         with contextlib.suppress(Ended, ConnectionError), contextlib.closing(run.neighbors):
-            await together(program.until_ended(), run.hear(), run.keep_links(), give())
+            await together(program.until_ended(), run.hear(), run.keep_links(), give(),
+                           announcements.keep(run.look))
         return bool(watch.taken)
 
 
@@ -207,6 +233,8 @@ async def serve(options: argparse.Namespace) -> None:
     """Serves until it is cancelled."""
     api = api_of(options, f"bridge-speaker/{options.node_name}")
     figures = SpeakerFigures(options.node_name)
+    events = Events(api, COMPONENT, options.node_name)
+    announcements = Announcements(options.node_name, options.lb_class, events)
     links, peers = links_of(options), peers_of(api, options)
     try:
         members = members_of(api, options)
@@ -216,10 +244,10 @@ async def serve(options: argparse.Namespace) -> None:
             yield from members.lines()
 
         async def run() -> bool:
-            return await run_once(options, api, members, links, peers, figures)
+            return await run_once(options, api, members, links, peers, figures, announcements)
 
         async with figures_served(options.figures, lines):
-            await members.run(forever(run))
+            await together(members.run(forever(run)), events.keep())
     finally:
         peers.close()
         for link in links.values():

@@ -8,7 +8,7 @@ from collections.abc import AsyncGenerator, Awaitable, Callable
 from contextlib import aclosing
 from typing import Protocol
 
-from api import SILENCE, Broken, Json, NotSent, Refused
+from api import Broken, Json, NotSent, Refused
 from common import tell, together, warn
 from guard import POOL, NotYet, PoolGuard
 from host import Pause
@@ -17,12 +17,14 @@ from reading import read
 FIRST = ("watch=1&sendInitialEvents=true&resourceVersionMatch=NotOlderThan"
          "&allowWatchBookmarks=true")
 NEXT = "watch=1&resourceVersion={}&allowWatchBookmarks=true"
+SECONDS = 50  # of a watch that was quiet: the server ends it, two seconds behind a bookmark
+QUIET = f"&timeoutSeconds={SECONDS}"
+SILENCE = 55.0  # seconds without a line, until a watch is asked for anew by another connection
 ANEW: Json = {"type": "ERROR", "object": {}}  # lists begin anew
 ERROR = b'{"type":"ERROR","object":{}}\n'
 FIRST_PAUSE, LONGEST_PAUSE = 0.1, 30.0  # seconds before a watch that broke is asked for again
 REFUSED_PAUSE, EMPTY_PAUSE = 2.0, 2.0  # and before one that was refused, or isn't to end yet
 AWAITED_TOLD = 15.0  # seconds until it is told which lists are awaited and what is kept back
-GAPS, SHORTEST_SILENCE = 2.5, 30.0  # times a server's pause between bookmarks: then it is silent
 UNSERVED = (400, 422)  # answers of a server that doesn't begin watches with what there is
 WATCHED_LABELS = ("Namespace", "Node")  # kinds of which nothing but labels is read
 Key = tuple[str | None, str | None]
@@ -37,9 +39,8 @@ class Expired(Exception):
 class Source(Protocol):
     """What lines are asked of: an API server (api.py)."""
 
-    def lines(self, path: str,
-              silence: Callable[[], float] = lambda: SILENCE) -> AsyncGenerator[bytes, None]:
-        """The lines of a watch."""
+    def lines(self, path: str, silence: float) -> AsyncGenerator[bytes, None]:
+        """The lines of a watch, until it ends or nothing came for so many seconds."""
 
     def listed(self, path: str) -> AsyncGenerator[bytes, None]:
         """A list as the lines of a watch."""
@@ -112,29 +113,15 @@ def hold(held: dict[Key, bytes], event: Json, line: bytes) -> None:
         held[key_of(event)] = line
 
 
-class Gap:
-    """How long a watch may be silent: some times as long as between its last two bookmarks."""
-
-    def __init__(self) -> None:
-        self.last, self.seconds = 0.0, SILENCE
-
-    def limit(self) -> float:
-        return self.seconds
-
-    def note(self) -> None:
-        now = asyncio.get_running_loop().time()
-        if self.last:
-            self.seconds = min(SILENCE, max(SHORTEST_SILENCE, GAPS * (now - self.last)))
-        self.last = now
-
-
 class Watched:
-    """One watch: the version from which it goes on, and what was told of it."""
+    """One watch: the version from which it goes on, whether nothing but bookmarks came by its last
+    connection, and what was told of it."""
 
     def __init__(self, kind: str, path: str) -> None:
         self.kind, self.path = kind, path
         self.version: str | None = None
-        self.pause, self.gap = Pause(FIRST_PAUSE, LONGEST_PAUSE), Gap()
+        self.is_quiet = False
+        self.pause = Pause(FIRST_PAUSE, LONGEST_PAUSE)
         self.told: int | None = None
         self.labels: dict[Key, object] = {}  # of the objects of which nothing else is read
 
@@ -223,14 +210,15 @@ class Watches:
         """Gives the lines of one connection."""
         held: dict[Key, bytes] = {}
         async with aclosing(self.asked(watched)) as lines:
+            watched.is_quiet = True
             async for line in lines:
                 event, line = readable(line)
                 if event["type"] == "ERROR":
                     raise Expired()
                 watched.told = None
                 watched.pause.reset()
-                if event["type"] == "BOOKMARK":
-                    watched.gap.note()
+                if event["type"] != "BOOKMARK":
+                    watched.is_quiet = False
                 if not await self.keep_back(watched.kind, event, line, held):
                     await self.pass_on(watched, event, line, held)
                 watched.version = event["object"]["metadata"]["resourceVersion"]
@@ -238,12 +226,15 @@ class Watches:
     def asked(self, watched: Watched) -> AsyncGenerator[bytes, None]:
         if not self.lists[watched.kind].is_set():
             return self.first(watched)
-        return self.more(watched)
+        return self.more(watched, watched.is_quiet)
 
-    async def more(self, watched: Watched) -> AsyncGenerator[bytes, None]:
-        """The lines of a watch that goes on."""
+    async def more(self, watched: Watched, is_quiet: bool) -> AsyncGenerator[bytes, None]:
+        """The lines of a watch that goes on. One on which nothing but bookmarks came is asked for
+        a short time only: so it is seen within a minute whether the server is there, though it
+        sends a bookmark each minute and no more."""
         path = f"{watched.path}?{NEXT.format(watched.version)}"
-        async with aclosing(self.api.lines(path, watched.gap.limit)) as lines:
+        path += QUIET if is_quiet else ""
+        async with aclosing(self.api.lines(path, SILENCE)) as lines:
             async for line in lines:
                 yield line
 
@@ -253,7 +244,7 @@ class Watches:
         it; so is one that marks no end of it."""
         try:
             path = f"{watched.path}?{FIRST}"
-            async with aclosing(self.api.lines(path, watched.gap.limit)) as lines:
+            async with aclosing(self.api.lines(path, SILENCE)) as lines:
                 is_ended = False
                 async for line in lines:
                     is_ended = is_ended or b'"k8s.io/initial-events-end"' in line

@@ -125,6 +125,14 @@ class Hop:
         found: list[int] = self.wait(all_of())
         return found
 
+    def release_soon(self, request: Request) -> None:
+        """This request, where it is held back, comes now; nobody waits for it."""
+        def one_of() -> None:
+            for one in self.held:
+                if one.request is request:
+                    one.released.set()
+        self.loop.call_soon_threadsafe(one_of)
+
     def stop(self) -> None:
         self.loop.call_soon_threadsafe(self.loop.stop)
         self.thread.join()

@@ -8,9 +8,19 @@ from collections.abc import Callable
 
 from cluster import LEASE, Cluster, Failed, pool, service
 from hop import PASS, Fate, Hop, Request
+from kinds import BY_NAME
+from serving import Faults, Watch
+from store import MERGE, Refused
 
 HELD = Fate("hold")
 Fates = Callable[[Request], Fate]
+
+
+class Expiring(Faults):
+    """Each watch expires at its next event."""
+
+    def of_event(self, _watch: Watch) -> str | None:
+        return "expires"
 
 
 def once(fate: Fate, applies: Callable[[Request], bool]) -> Fates:
@@ -330,12 +340,10 @@ def services_are_listed_anew_while_a_put_is_unfenced(cluster: Cluster) -> None:
     cluster.bridge(hop)
     cluster.until(lambda: cluster.has("b") and hop.held, "the put of a is held")
     before = lists
-    cluster.server.faults.events = 1.0
-    cluster.server.faults.draw = lambda share, *kinds: "expires" if share and "expires" in kinds \
-        else None
+    cluster.server.faults = Expiring()
     cluster.make(service("c"))
     time.sleep(1)
-    cluster.server.faults.events = 0.0
+    cluster.server.faults = Faults()
     cluster.while_(lambda: lists == before, 2, "no list of services is begun")
     down = False
     cluster.until(lambda: lists > before, "it is, once the put is fenced")
@@ -356,6 +364,39 @@ def a_put_is_answered_at_the_old_version(cluster: Cluster) -> None:
     cluster.until(lambda: cluster.has("b", "c"), "b and c are served", 8)
     cluster.until(lambda: "its version stays" in bridge.text(), "it is told")
     cluster.check(bridge.text().count("program started") == 1, "the program goes on")
+
+
+def a_webhook_takes_the_mark_out(cluster: Cluster) -> None:
+    """200 at a later version, but the mark isn't stored: it is no `ok`, and the others are
+    served."""
+    cluster.make(pool("p", "192.0.2.10-192.0.2.19"), *(service(name) for name in "abc"))
+
+    def strip(request: Request) -> Fate:
+        if not request.is_put or request.service != "a":
+            return PASS
+        body = json.loads(request.body)
+        body["metadata"]["annotations"]["metallb.io/ip-held-as"] = None
+        try:
+            made = cluster.store.patch(BY_NAME["Service"], ("default", "a"), body, MERGE, True)
+        except Refused as refused:
+            return Fate("refuse", refused.code, str(refused))
+        return Fate("refuse", 200, body=json.dumps(made).encode())
+    bridge = cluster.bridge(cluster.hop(strip))
+    cluster.until(lambda: cluster.has("b", "c"), "b and c are served", 8)
+    cluster.until(lambda: "without what was put" in bridge.text(), "it is told")
+
+
+def a_refused_put_holds_no_address(cluster: Cluster) -> None:
+    """The puts of one service are refused for good: the one address that it was to have is
+    another's soon, though nobody edits it."""
+    cluster.make(pool("p", "192.0.2.10/32"), service("a"), service("b"))
+
+    def refuse(request: Request) -> Fate:
+        if request.is_put and request.service == "a":
+            return Fate("refuse", 422, "not this one")
+        return PASS
+    cluster.bridge(cluster.hop(refuse))
+    cluster.until(lambda: cluster.has("b"), "b is served")
 
 
 def one_put_is_never_answered(cluster: Cluster) -> None:
@@ -523,12 +564,12 @@ def watches_are_refused_for_a_while(cluster: Cluster) -> None:
 
 def a_watch_falls_silent(cluster: Cluster) -> None:
     """Nothing more comes by any watch, though each connection stands, as behind a load balancer
-    whose server is gone. No bookmark comes either, so it is noticed within a minute."""
+    whose server is gone. The server sends a bookmark each minute; it is noticed sooner."""
+    cluster.server.bookmark_seconds = 60.0
     cluster.make(pool("p", "192.0.2.10-192.0.2.19"), service("a"))
     hop = cluster.hop()
     cluster.bridge(hop)
     cluster.until(lambda: cluster.has("a"), "a is served")
-    time.sleep(21)  # two bookmarks of this server come, ten seconds apart
     hop.freeze()
     cluster.make(service("b"))
     cluster.until(lambda: cluster.has("b"), "b is served", 60)
@@ -545,6 +586,7 @@ HISTORIES: dict[str, Callable[[Cluster], None]] = {
         a_change_of_the_lease_is_lost,
         a_webhook_is_down_for_one_service, it_is_edited_while_its_webhook_is_down,
         services_are_listed_anew_while_a_put_is_unfenced, a_put_is_answered_at_the_old_version,
+        a_webhook_takes_the_mark_out, a_refused_put_holds_no_address,
         one_put_is_never_answered, the_server_is_busy, the_namespace_is_wrong,
         there_is_no_pool_at_first, all_pools_are_made_anew, who_means_it_says_so,
         services_share_by_the_older_annotation, streaming_lists_are_off,

@@ -1,8 +1,8 @@
 """Histories of a small cluster in virtual time, each a function of its seed. Needs the built
-controller.
+controller, and the built speaker for those of speakers.
 
     python3 tests/cluster/sim [--seed S] [--minutes M | --histories N] [--jobs N]
-        [--mode one|failover|pair|three|all] [--kinds KIND,..] [--without FAULT,..]
+        [--mode one|failover|pair|three|all|speakers] [--kinds KIND,..] [--without FAULT,..]
         [--virtual MINUTES]
     python3 tests/cluster/sim --seed S --trace FILE
     python3 tests/cluster/sim --seed S --shrink FILE
@@ -11,17 +11,19 @@ controller.
     python3 tests/cluster/sim --check [--renew]
 
 The bridge's own code runs on an event loop whose time is the history's, against the API server of
-tests/cluster, and with it the real controller in lock-step (lockstep.py). One seed after the other
-is run for M minutes by N processes. A difference is told with its seed, and ends nothing; the
-status is 1 then.
+tests/cluster, and with it the real controller in lock-step (lockstep.py). With `--mode speakers`
+it is the speakers' bridges of two to four nodes with the real speakers: their datagrams, frames and
+BGP sessions go over a network of the history (lan.py). One seed after the other is run for M
+minutes by N processes. A difference is told with its seed, and ends nothing; the status is 1 then.
 
 `--trace` keeps what is noted. `--shrink` leaves out troubles of the one seed as long as the same
 kind of difference stays, and writes what is left as a history to FILE. `--history` runs such a
-file, or one that is written by hand (histories.d). `--planted` plants faults, one after the other,
-and tells which written histories find each, and which seed does within M minutes of a processor;
-with --shrink, --trace or --history the one that is named is planted for that. `--check` runs some
-seeds and all written histories and compares the hashes of what was noted with those in hashes.json,
-which `--renew` writes anew: after a change of the bridge, of the controller or of these tests."""
+file, or one that is written by hand (histories.d). `--planted` plants faults (planted.py), and
+prints a table of the first seeds that find them within M minutes of a processor, and find nothing
+without them; with --shrink, --trace or --history the one that is named is planted for that.
+`--check` runs some seeds and all written histories and compares the hashes of what was noted with
+those in hashes.json, which `--renew` writes anew: after a change of the bridge, of the programs or
+of these tests."""
 import os
 import pathlib
 import sys
@@ -31,7 +33,7 @@ if os.environ.get("PYTHONHASHSEED") != "0":
     os.execve(sys.executable, [sys.executable, *sys.orig_argv[1:]],
               {**os.environ, "PYTHONHASHSEED": "0"})
 HERE = pathlib.Path(__file__).resolve().parent
-sys.path[:0] = [str(HERE), str(HERE.parent)]
+sys.path[:0] = [str(HERE), str(HERE.parent), str(HERE.parents[1])]
 import command
 
 sys.exit(command.main(sys.argv[1:]))

@@ -10,13 +10,15 @@ import json
 import os
 import pathlib
 import select
+import signal
 import sys
 import tempfile
 import time
 import traceback
-from collections.abc import Iterable, Iterator, Sequence
+from collections.abc import Callable, Iterable, Iterator, Sequence
 from dataclasses import asdict, replace
-from typing import IO, TYPE_CHECKING, Any
+from functools import partial
+from typing import IO, TYPE_CHECKING, Any, TextIO
 
 HERE = pathlib.Path(__file__).resolve().parent
 TOP = HERE.parents[2]
@@ -26,8 +28,10 @@ if TYPE_CHECKING:
 SALTS, FEW = 6, 40  # with how many salts a history of fewer troubles than so many is tried
 HASHES = HERE / "hashes.json"
 WRITTEN = sorted((HERE / "histories.d").glob("*.json"))
-CHECKED = (("one", 1), ("failover", 2), ("pair", 3), ("three", 4))
-CHECKED_SECONDS = 180.0
+CHECKED = (("one", 1), ("failover", 2), ("pair", 3), ("three", 4), ("speakers", 5), ("speakers", 6))
+CHECKED_SECONDS = 120.0
+HANGS = 150.0  # seconds of the processor after which a history counts as one that never ends
+AT_THE_END = ("UNSETTLED", "ENDED")  # what is told once a history is over
 BEHIND = 200.0  # seconds after a difference up to which a history is shrunk
 MODES = ("failover", "pair", "one", "three")
 
@@ -42,13 +46,15 @@ def words(given: Sequence[str]) -> argparse.Namespace:
     ask.add_argument("--minutes", type=float, default=1.0, help="of the clock (%(default)s)")
     ask.add_argument("--histories", type=int, help="so many in place of so many minutes")
     ask.add_argument("--jobs", type=int, default=1, help="processes at a time (%(default)s)")
-    ask.add_argument("--mode", choices=(*MODES, "all"), default="all",
-                     help="who starts bridges, see operators.py; of `all` by the seed")
+    ask.add_argument("--mode", choices=(*MODES, "all", "speakers"), default="all",
+                     help="who starts controllers' bridges, see operators.py; of `all` by the "
+                          "seed; `speakers`: nodes with speakers in their place")
     ask.add_argument("--kinds", type=names, help="the kinds of troubles (all); see troubles.py")
     ask.add_argument("--without", type=names, default=(), help="faults of requests that don't come")
     ask.add_argument("--virtual", type=float, default=15.0,
                      help="minutes of troubles (%(default)s)")
     ask.add_argument("--controller", default=str(TOP / "crates/mlb_controller/out/mlb_controller"))
+    ask.add_argument("--speaker", default=str(TOP / "crates/mlb_speaker/out/mlb_speaker"))
     ask.add_argument("--bridge", default=str(TOP / "bridge"))
     ask.add_argument("--trace", metavar="FILE", help="keeps what is noted")
     ask.add_argument("--only", type=names, help="the numbers of the troubles that come")
@@ -64,12 +70,44 @@ def words(given: Sequence[str]) -> argparse.Namespace:
     return ask.parse_args(given)
 
 
-class Runner:
-    """Runs histories with one bridge and one controller, each in a process of its own, so that
-    nothing is left of the one before. `plant` is the name of a fault."""
+def begun(work: Callable[[], object]) -> tuple[int, IO[str]]:
+    """A process of its own that does the work, and where its outcome is read, as JSON."""
+    ours, theirs = os.pipe()
+    sys.stdout.flush()
+    if child := os.fork():
+        os.close(theirs)
+        return child, open(ours)
+    os.close(ours)
+    status = 1
+    try:
+        outcome = work()
+        with open(theirs, "w") as file:
+            json.dump(outcome, file)
+        status = 0
+    except BaseException:
+        traceback.print_exc()
+    finally:
+        sys.stderr.flush()
+        os._exit(status)
 
-    def __init__(self, bridge: str, controller: str, plant: str | None = None) -> None:
-        self.bridge, self.controller, self.plant = bridge, controller, plant
+
+def outcome_of(pid: int, file: IO[str]) -> Any:
+    with file:
+        outcome = json.load(file)
+    os.waitpid(pid, 0)
+    return outcome
+
+
+class Runner:
+    """Runs histories with one bridge and the programs of a folder, each in a process of its own, so
+    that nothing is left of the one before. `plant` is the name of a fault."""
+
+    def __init__(self, options: argparse.Namespace, bridge: str, plant: str | None = None) -> None:
+        self.bridge, self.plant = bridge, plant
+        self.controller, self.speaker = options.controller, options.speaker
+        for module in ("controller", "speaker", "history", "operators", "planted",
+                       "speaker_history"):
+            importlib.import_module(module)
 
     def each(self, asked: Iterable["Asked"], jobs: int = 1,
              trace: str | None = None) -> Iterator["Result"]:
@@ -79,15 +117,12 @@ class Runner:
         try:
             while True:
                 while len(running) < jobs and (one := next(left, None)):
-                    pid, file = self.begun(one, trace)
+                    pid, file = begun(partial(self.outcome, one, trace))
                     running[file] = pid
                 if not running:
                     return
                 for file in select.select(list(running), [], [])[0]:
-                    with file:
-                        told = json.load(file)
-                    os.waitpid(running.pop(file), 0)
-                    yield Result(**told)
+                    yield Result(**outcome_of(running.pop(file), file))
         finally:
             for file, pid in running.items():
                 file.close()
@@ -96,36 +131,52 @@ class Runner:
     def one(self, asked: "Asked", trace: str | None = None) -> "Result":
         return next(self.each([asked], 1, trace))
 
-    def begun(self, asked: "Asked", trace: str | None) -> tuple[int, IO[str]]:
-        ours, theirs = os.pipe()
-        if child := os.fork():
-            os.close(theirs)
-            return child, open(ours)
-        os.close(ours)
+    def outcome(self, asked: "Asked", trace: str | None) -> dict[str, Any]:
         from history import Result
+        from lockstep import Stuck
+        signal.signal(signal.SIGVTALRM, hangs)
+        signal.setitimer(signal.ITIMER_VIRTUAL, HANGS)
         try:
             told = self.run(asked, trace)
+        except Stuck as fault:
+            told = Result(asked.seed, [f"PROGRAM {fault}"])
         except BaseException as fault:
             wrong = [f"SIMULATION {fault!r}", traceback.format_exc()]
             told = Result(asked.seed, wrong)
-        told.processor = sum(os.times()[:4])
-        with open(theirs, "w") as file:
-            json.dump(asdict(told), file)
-        os._exit(0)
+        told.processor, told.name = sum(os.times()[:4]), asked.name
+        return asdict(told)
 
     def run(self, asked: "Asked", trace: str | None) -> "Result":
         gc.disable()
-        controller = importlib.import_module("controller")
-        from history import History
-        from operators import SERVER
-        from planted import PROGRAMS, Wrong
-        command = ["controller", "--program", self.controller, "--server", SERVER]
-        given = vars(words_of(self.bridge).parse_args(command))
-        given |= {"client_certificate": None, "client_key": None}
-        alter = Wrong(self.plant).line if self.plant in PROGRAMS and self.plant else same
         with open(trace or os.devnull, "w") as file:
             keeps = file if trace else None
+            if asked.mode == "speakers":
+                return self.of_speakers(asked, keeps)
+            from history import History
+            from planted import PROGRAMS, Wrong
+            controller = importlib.import_module("controller")
+            given = vars(self.read(["controller", "--program", self.controller]))
+            alter = Wrong(self.plant).line if self.plant in PROGRAMS and self.plant else same
             return History(asked, controller.serve, given, keeps, alter).run()
+
+    def of_speakers(self, asked: "Asked", keeps: TextIO | None) -> "Result":
+        from speaker_history import SpeakerHistory
+        speaker = importlib.import_module("speaker")
+
+        def words_for(given: list[str]) -> argparse.Namespace:
+            return self.read(["speaker", "--program", self.speaker, "--secret", "key", *given])
+        return SpeakerHistory(asked, speaker.serve, words_for, keeps).run()
+
+    def read(self, words: list[str]) -> argparse.Namespace:
+        """The bridge's words, as it reads them."""
+        from operators import SERVER
+        given = words_of(self.bridge).parse_args([*words, "--server", SERVER])
+        given.client_certificate = given.client_key = None
+        return given
+
+
+def hangs(*_: object) -> None:
+    raise RuntimeError(f"no end within {HANGS:.0f} s of the processor")
 
 
 def same(value: dict[str, Any]) -> dict[str, Any]:
@@ -171,27 +222,31 @@ def write_history(path: str, asked: "Asked", troubles: list[Any], what: str) -> 
     pathlib.Path(path).write_text(text + "\n")
 
 
-def kind_of(wrong: list[str]) -> str:
+def kind_of(told: "Result") -> str:
+    """The kind of what is wrong, or nothing."""
+    wrong = [*told.wrong, *told.surprises]
     return wrong[0].split()[0] if wrong else ""
 
 
 def planned(asked: "Asked") -> list[Any]:
     """All troubles of a history."""
-    from troubles import KINDS, drawn
+    import speaker_history
+    import troubles
     from virtual import World
     if asked.troubles is not None:
         return asked.troubles
-    kinds = [kind for kind in asked.kinds or KINDS if kind not in asked.without]
-    return drawn(World(asked.seed).stream("plan", False), asked.seconds, kinds)
+    all_kinds = speaker_history.KINDS if asked.mode == "speakers" else troubles.KINDS
+    kinds = [kind for kind in asked.kinds or all_kinds if kind not in asked.without]
+    return troubles.drawn(World(asked.seed).stream("plan", False), asked.seconds, kinds)
 
 
 def shrunk(runner: Runner, asked: "Asked") -> "Asked":
     """The history with as few troubles as still lead to the same kind of difference: parts are left
     out, ever smaller ones."""
     first = runner.one(asked)
-    kind, kept = kind_of(first.wrong), list(asked.only or range(first.drawn))
-    print(f"{len(kept)} troubles: {first.wrong[:1]}", flush=True)
-    best = replace(asked, end=first.at + BEHIND if kind in ("SHARED", "EMPTIED") else None)
+    kind, kept = kind_of(first), list(asked.only or range(first.drawn))
+    print(f"{len(kept)} troubles: {[*first.wrong, *first.surprises][:1]}", flush=True)
+    best = replace(asked, end=None if kind in AT_THE_END else first.at + BEHIND)
     size = len(kept) // 2
     while kind and size:
         at, found = 0, False
@@ -200,7 +255,7 @@ def shrunk(runner: Runner, asked: "Asked") -> "Asked":
             salts = (best.salt, *range(best.salt + 1, best.salt + SALTS * (len(fewer) < FEW)))
             for salt in salts:
                 told = runner.one(replace(best, only=tuple(fewer), salt=salt))
-                if kind_of(told.wrong) == kind:
+                if kind_of(told) == kind:
                     end = best.end and min(best.end, told.at + BEHIND)
                     best = replace(best, only=tuple(fewer), salt=salt, end=end)
                     kept, found = fewer, True
@@ -219,6 +274,7 @@ class Report:
     def __init__(self) -> None:
         self.found = collections.Counter[str]()
         self.troubles = collections.Counter[str]()
+        self.befell = collections.Counter[str]()
         self.histories = self.ends = self.changes = 0
         self.hours = self.processor = 0.0
 
@@ -229,19 +285,21 @@ class Report:
         self.ends += told.ends
         self.changes += told.changes
         self.troubles.update(told.troubles)
+        self.befell.update(told.befell)
         for line in told.surprises:
-            print(f"seed {told.seed}: surprise {line}", flush=True)
+            print(f"seed {told.seed}: {line}", flush=True)
         if told.surprises and not told.wrong:
             self.found["ENDED"] += 1
         if told.wrong:
-            self.found[kind_of(told.wrong)] += 1
+            self.found[kind_of(told)] += 1
             at = f"at {told.at:.1f} s, {told.processor:.1f} s of processor, hash {told.hash}"
             print(f"seed {told.seed} {at}:", *told.wrong, sep="\n  ", flush=True)
 
     def tell(self) -> None:
         print(f"{self.histories} histories, {self.hours:.1f} virtual hours, {self.ends} ends of "
               f"bridges, {self.changes} changes in {self.processor / 60:.1f} minutes of processor; "
-              f"{dict(self.troubles)}; {dict(self.found) or 'no difference'}", flush=True)
+              f"{dict(self.befell)}; {dict(self.troubles)}; "
+              f"{dict(self.found) or 'no difference'}", flush=True)
 
 
 def seeds(options: argparse.Namespace) -> Iterator[int]:
@@ -285,60 +343,82 @@ def run_written(options: argparse.Namespace, runner: Runner) -> int:
     return 1 if told.wrong or told.surprises else 0
 
 
-def found_by(options: argparse.Namespace, name: str, folder: str) -> str | None:
-    """The seed by which a planted fault is found, and how, or nothing."""
-    from planted import folder_of
+def found_by(options: argparse.Namespace, name: str, first: int, spent: float,
+             folder: str) -> dict[str, Any]:
+    """The next seed from `first` on by which a planted fault is found, before so many seconds of
+    the processor are spent."""
+    from planted import FAULTS, folder_of
     bridge = folder_of(name, options.bridge, folder)
     sys.path.insert(0, bridge)
-    spent = 0.0
-    try:
-        print(f"{name}: histories {histories_that_find(options, bridge, name)}", flush=True)
-        for seed in itertools.count(options.seed):
-            told = Runner(bridge, options.controller, name).one(asked_of(options, seed))
-            spent += told.processor
-            if (told.wrong or told.surprises) and is_well(options, seed):
-                how = [*told.wrong, *told.surprises][0]
-                return f"seed {seed} at {told.at:.0f} s, {spent:.0f} s spent: {how}"
-            if spent > 60 * options.minutes:
-                return None
-    finally:
-        sys.path.remove(bridge)
-    return None
+    runner = Runner(options, bridge, name)
+    if name in FAULTS and FAULTS[name].of_speakers:
+        options.mode = "speakers"
+    seed = first
+    while spent < 60 * options.minutes:
+        told = runner.one(asked_of(options, seed))
+        spent += told.processor
+        if told.wrong or told.surprises:
+            return {"seed": seed, "spent": spent, "at": told.at,
+                    "how": [*told.wrong, *told.surprises][0]}
+        seed += 1
+    return {"seed": None, "spent": spent}
 
 
-def histories_that_find(options: argparse.Namespace, bridge: str, name: str) -> str:
-    """The names of the written histories that find a planted fault."""
-    runner = Runner(bridge, options.controller, name)
-    told = {path.stem: runner.one(read_history(path)) for path in WRITTEN}
-    return ", ".join(one for one in told if told[one].wrong or told[one].surprises) or "none"
-
-
-def is_well(options: argparse.Namespace, seed: int) -> bool:
+def is_well(options: argparse.Namespace, name: str, seed: int) -> bool:
     """Whether nothing is found with the right bridge and program."""
-    told = Runner(options.bridge, options.controller).one(asked_of(options, seed))
+    from planted import FAULTS
+    if name in FAULTS and FAULTS[name].of_speakers:
+        options.mode = "speakers"
+    sys.path.insert(0, options.bridge)
+    told = Runner(options, options.bridge).one(asked_of(options, seed))
     return not told.wrong and not told.surprises
 
 
+def seed_of(options: argparse.Namespace, name: str) -> dict[str, Any]:
+    """The first seed that finds the fault, and nothing without it."""
+    found: dict[str, Any] = {"seed": options.seed - 1, "spent": 0.0}
+    while found["seed"] is not None:
+        with tempfile.TemporaryDirectory(prefix="mlb-planted-") as folder:
+            found = outcome_of(*begun(partial(found_by, options, name, found["seed"] + 1,
+                                              found["spent"], folder)))
+        if found["seed"] is None or outcome_of(
+                *begun(partial(is_well, options, name, found["seed"]))):
+            break
+    return found
+
+
 def run_planted(options: argparse.Namespace) -> int:
-    from planted import NAMES
-    wanted = NAMES if options.planted == ("all",) else options.planted
-    missed = 0
-    with tempfile.TemporaryDirectory(prefix="mlb-planted-") as folder:
-        for name in wanted:
-            found = found_by(options, name, folder)
-            missed += found is None
-            print(f"{name}: {found or 'NOT FOUND'}", flush=True)
+    """The table of docs/MEASURED.md."""
+    from planted import FAULTS, NAMES
+    wanted = list(NAMES if options.planted == ("all",) else options.planted)
+    print("| Planted | Seed | Told at | As | Processor | Stored histories about it |\n"
+          "|---|---|---|---|---|---|", flush=True)
+    missed, running = 0, dict[IO[str], tuple[int, str]]()
+    while wanted or running:
+        while wanted and len(running) < options.jobs:
+            pid, file = begun(partial(seed_of, options, wanted[0]))
+            running[file] = pid, wanted.pop(0)
+        for file in select.select(list(running), [], [])[0]:
+            pid, name = running.pop(file)
+            found = outcome_of(pid, file)
+            stories = FAULTS[name].stories if name in FAULTS else ()
+            missed += found["seed"] is None
+            told = ["NOT FOUND", "", ""]
+            if found["seed"] is not None:
+                told = [found["seed"], f"{found['at']:.0f} s", found["how"].split()[0]]
+            row = [name, *told, f"{found['spent']:.0f} s", ", ".join(f"`{one}`" for one in stories)]
+            print(f"| {' | '.join(map(str, row))} |", flush=True)
     return 1 if missed else 0
 
 
 def run_checks(options: argparse.Namespace, runner: Runner) -> int:
     """The last line is 'N passed, M failed'."""
     from history import Asked
-    asked = {f"{mode} {seed}": Asked(seed, mode, CHECKED_SECONDS) for mode, seed in CHECKED}
-    asked |= {path.stem: read_history(path) for path in WRITTEN}
-    told = {name: runner.one(one) for name, one in asked.items()}
+    asked = [Asked(seed, mode, CHECKED_SECONDS, name=f"{mode} {seed}") for mode, seed in CHECKED]
+    asked += [replace(read_history(path), name=path.stem) for path in WRITTEN]
+    told = {one.name: one for one in runner.each(asked, options.jobs)}
     if options.renew:
-        hashes = {name: one.hash for name, one in told.items()}
+        hashes = {one.name: told[one.name].hash for one in asked}
         HASHES.write_text(json.dumps(hashes, indent=1) + "\n")
     kept = json.loads(HASHES.read_text())
     failed = 0
@@ -361,7 +441,7 @@ def main(given: Sequence[str]) -> int:
     sys.path.insert(0, options.bridge)
     if options.planted:
         return run_planted(options)
-    return run_asked(options, Runner(options.bridge, options.controller))
+    return run_asked(options, Runner(options, options.bridge))
 
 
 def run_with(options: argparse.Namespace, name: str, folder: str) -> int:
@@ -369,7 +449,7 @@ def run_with(options: argparse.Namespace, name: str, folder: str) -> int:
     from planted import folder_of
     bridge = folder_of(name, options.bridge, folder)
     sys.path.insert(0, bridge)
-    return run_asked(options, Runner(bridge, options.controller, name))
+    return run_asked(options, Runner(options, bridge, name))
 
 
 def run_asked(options: argparse.Namespace, runner: Runner) -> int:

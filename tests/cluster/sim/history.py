@@ -15,17 +15,20 @@ import host
 import store as stores
 from judges import Judges
 from kinds import BY_NAME
-from lockstep import Alter
+from lockstep import Run
 from loops import EPOCH, Machine, Process
 from operators import Operator
-from rules import read_address
-from servers import ApiServer, Weather
+from servers import HOP_SECONDS, ApiServer, Weather
 from stand_ins import Simulated, note_log
 from troubles import KINDS, Harm, Trouble, drawn
 from users import SPANS, Users, custom
 from virtual import World
 
+Json = dict[str, Any]
+Alter = Callable[[Json], Json]
 SETTLED = 900.0  # seconds of calm within which nothing may be left to be done
+OLD = 0.2  # the share of histories in which one API server begins no watch with what there is
+ARRIVED = HOP_SECONDS + 60.0  # seconds of calm until nothing that was sent before still comes
 STAYS = 60.0  # and in which that stays so
 LOOK = 5.0
 LEASE = ("metallb-system", "controller")
@@ -45,6 +48,9 @@ class Asked:
     troubles: list[Trouble] | None = None  # those of a written history
     is_bare: bool = False  # users have made nothing before
     guard: bool | None = None  # whether the bridge keeps the last pool's deletion back; drawn
+    name: str = ""
+    nodes: int | None = None  # those of a history of speakers; drawn
+    old: bool | None = None  # whether one API server begins no watch with what there is; drawn
 
 
 @dataclass
@@ -61,6 +67,8 @@ class Result:
     drawn: int = 0
     settled: float = 0.0
     processor: float = 0.0
+    befell: dict[str, int] = field(default_factory=dict)
+    name: str = ""
 
 
 class History:
@@ -83,8 +91,10 @@ class History:
         self.judges = Judges(self.store, self.is_guarded)
         self.alter = alter
         self.store.on_change.append(self.changed)
-        self.servers = [ApiServer(world, self.store, name, self.weather)
-                        for name in ("api1", "api2")]
+        is_old = world.stream("old server", False).random() < OLD
+        is_old = is_old if asked.old is None else asked.old
+        self.servers = [ApiServer(world, self.store, "api1", self.weather),
+                        ApiServer(world, self.store, "api2", self.weather, is_old)]
         draw = world.stream("machines")
         self.machines = [Machine(world, f"n{at}", draw.uniform(-30, 30), draw.uniform(0.999, 1.001))
                          for at in range(1, 4)]
@@ -94,15 +104,26 @@ class History:
         self.troubles = asked.troubles or drawn(plan, asked.seconds, kinds)
         words = {**words, "without_pools": not self.is_guarded}
         self.operator = Operator(world, asked.mode, self.machines, self.servers, serve, words,
-                                 self.written)
+                                 self)
 
-    def written(self, value: dict[str, Any]) -> dict[str, Any]:
-        """Told of what each program writes."""
+    # What each run of a program is given and writes
+
+    def given(self, run: Run, _lane: str, event: Json) -> None:
+        self.judges.emptied.given(run, event)
+
+    def written(self, run: Run, value: Json) -> Json:
         value = self.alter(value)
         if value["op"] == "put":
-            addresses = [read_address(address) for address in value["addresses"]]
-            self.judges.emptied.asked((value["namespace"], value["name"]), addresses)
+            self.judges.emptied.put(run, value)
+        elif value["op"] == "config" and value["result"] == "accepted":
+            self.judges.emptied.accepted(run)
         return value
+
+    def replied(self, run: Run, reply: Json) -> None:
+        self.judges.emptied.replied(run, reply)
+
+    def ended(self, run: Run) -> None:
+        self.judges.emptied.ended(run)
 
     def make_lease(self) -> None:
         """The Lease that the manifest makes."""
@@ -110,6 +131,10 @@ class History:
                  "metadata": {"namespace": LEASE[0], "name": LEASE[1]}}
         if LEASE not in self.store.objects[BY_NAME["Lease"]]:
             self.store.put(lease)
+
+    def delete_lease(self) -> None:
+        if not self.is_calm and LEASE in self.store.objects[BY_NAME["Lease"]]:
+            self.store.delete(BY_NAME["Lease"], LEASE)
 
     def take_lease(self, holder: str) -> None:
         lease = copy.deepcopy(self.store.objects[BY_NAME["Lease"]].get(LEASE))
@@ -136,8 +161,13 @@ class History:
         wrong, settled = self.judges.faults()[:1], 0.0
         if not wrong and end > asked.seconds:
             self.heal()
-            wrong = self.settle()
-            settled = world.now - asked.seconds
+            healed = asked.seconds
+            if LEASE not in self.store.objects[BY_NAME["Lease"]]:
+                healed += ARRIVED
+                world.run(min(end, healed), self.judges.faults)
+                self.make_lease()
+            wrong = self.judges.faults()[:1] or self.settle()
+            settled = world.now - healed
         operator = self.operator
         surprises = [line for process in (*operator.graves, *operator.bridges)
                      for line in surprises_of(process)]
@@ -146,7 +176,7 @@ class History:
                 run.finish()
         return Result(world.seed, wrong, world.now, world.hash.hexdigest()[:16], world.notes,
                       self.harm.counts, self.store.version, operator.ends, surprises,
-                      len(self.troubles), settled)
+                      len(self.troubles), settled, befell=dict(world.counts))
 
     def heal(self) -> None:
         """All faults cease but a webhook that stays down."""
@@ -163,7 +193,9 @@ class History:
                 server.recover()
             server.see(self.store.version)
         self.weather.shares, self.weather.watches = {}, {}
+        self.weather.strips = None
         self.weather.next_puts.clear()
+        self.weather.plans.clear()
         self.store.history = 1000
         for bridge in operator.bridges:
             bridge.fuse = None
@@ -176,12 +208,13 @@ class History:
             self.store.put(custom("IPAddressPool", "p0", {"addresses": SPANS[:1]}))
 
     def left(self) -> list[str]:
-        """What isn't as it must be. Of services that can't be changed nothing is asked, and of the
-        addresses that such a one may have by a put that can't be fenced either."""
-        webhook, doubted = self.weather.webhook, self.weather.doubted
-        return [line for line in self.judges.left()
-                if not webhook or not (line.startswith(f"LEFT {webhook}/")
-                                       or doubted & set(wanted_in(line)))]
+        """What isn't as it must be. While a put can't be fenced no list of services is begun: so
+        nothing is asked then where no program has one."""
+        webhook, emptied = self.weather.webhook, self.judges.emptied
+        serves = any(emptied.serves(run) for run in self.operator.runs if not run.over)
+        if not serves and self.judges.doubted(webhook):
+            return []
+        return self.judges.left(webhook)
 
     def settle(self) -> list[str]:
         world = self.world
@@ -213,14 +246,9 @@ def new_store(world: World) -> stores.Store:
     return stores.Store(history=1000)
 
 
-def wanted_in(line: str) -> list[str]:
-    """The addresses that a service ought to have, by a line of the judge."""
-    return line.partition(" would be ")[2].partition(" of ")[0].split(",")
-
-
 def surprises_of(process: Process) -> list[str]:
     """A bridge that ended by itself with a failure."""
     task: asyncio.Task[object] | None = process.main
     if task and task.done() and not task.cancelled() and task.exception():
-        return [f"{process.name}: {task.exception()!r}"]
+        return [f"ENDED {process.name} by itself: {task.exception()!r}"]
     return []

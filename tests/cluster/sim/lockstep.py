@@ -13,19 +13,33 @@ import tempfile
 import time
 from collections import deque
 from collections.abc import Callable
-from typing import Any
+from typing import Any, Protocol
 
 from loops import Made, Process, Spawn
 
-PROBE = b'{"type":"BOOKMARK","object":{"kind":"Probe"}}\n'
+PROBES = {"frame": b'{"type":"FRAME","interface":"","bytes":""}\n'}
+PROBE = b'{"type":"BOOKMARK","object":{"kind":"Probe"}}\n'  # of the other lanes
 # octets that a pipe holds, and at which a writer is told to wait and to go on
 PIPE, HIGH, LOW = 65536, 65536, 16384
-Alter = Callable[[dict[str, Any]], dict[str, Any]]
-REAL_SECONDS = 60.0  # of the real clock in which a program must write
+REAL_SECONDS = 600.0  # of the real clock in which a program must write
+Json = dict[str, Any]
 
 
 class Stuck(Exception):
     """The program doesn't tell that it took a line."""
+
+
+class Hears(Protocol):
+    """Is told of what a run is given and writes."""
+
+    def given(self, run: "Run", lane: str, event: Json) -> None: ...
+
+    def written(self, run: "Run", value: Json) -> Json:
+        """What counts in place of a line that is written."""
+
+    def replied(self, run: "Run", reply: Json) -> None: ...
+
+    def ended(self, run: "Run") -> None: ...
 
 
 class Lane(asyncio.Transport):
@@ -115,10 +129,10 @@ class Run(asyncio.SubprocessTransport):
     """A run of the program; for the bridge the transport of a process."""
 
     def __init__(self, process: Process, protocol: Any, command: tuple[str, ...],
-                 alter: Alter) -> None:
+                 hears: Hears) -> None:
         super().__init__()
         self.process, self.world, self.protocol = process, process.world, protocol
-        self.alter = alter
+        self.hears = hears
         self.random: random.Random = process.world.chance(f"program of {process.name}")
         self.pid, self.input, self.last = process.machine.next_number(), Input(self), 0.0
         self.returncode: int | None = None
@@ -176,7 +190,8 @@ class Run(asyncio.SubprocessTransport):
             more = os.read(self.stdout.fileno(), 65536)
             if not more:
                 status = self.real.wait()
-                raise Stuck(f"the program ended by itself after {self.awaited}: {status}")
+                raise Stuck(f"ended by itself at {self.world.now:.1f} s, after {self.awaited}: "
+                            f"{status}")
             self.read += more
         line, _, self.read = self.read.partition(b"\n")
         return line + b"\n"
@@ -218,14 +233,15 @@ class Run(asyncio.SubprocessTransport):
         lane = self.random.choice(lanes)
         line = lane.take()
         self.awaited = lane.name, 2 * lane.number
-        os.write(lane.real, line + PROBE)
+        self.hears.given(self, lane.name, json.loads(line))
+        os.write(lane.real, line + PROBES.get(lane.name, PROBE))
         self.listen()
 
     def listen(self) -> None:
         """Passes on what is written until the line is done with, or until a reply is awaited."""
         while True:
             line = self.line()
-            value = self.alter(json.loads(line))
+            value = self.hears.written(self, json.loads(line))
             if value["op"] == "took":
                 if (value["lane"], value["n"]) == self.awaited:
                     break
@@ -247,6 +263,7 @@ class Run(asyncio.SubprocessTransport):
     def reply(self, line: bytes) -> None:
         if not self.over:
             self.world.note(self.process.name, f"reply: {line.decode().strip()}")
+            self.hears.replied(self, json.loads(line))
             os.write(self.stdin.fileno(), line)
             self.awaits_reply = False
             self.listen()
@@ -261,6 +278,7 @@ class Run(asyncio.SubprocessTransport):
         if self.over:
             return
         self.over, self.returncode = True, status
+        self.hears.ended(self)
         self.finish()
         if self in self.process.resources:
             self.process.resources.remove(self)
@@ -279,6 +297,8 @@ class Run(asyncio.SubprocessTransport):
 
     def crash(self) -> None:
         """kill -9; what it has written and wasn't read yet is lost."""
+        if not self.over:
+            self.world.counts["programs killed"] += 1
         self.world.note(self.process.name, "its program is killed")
         self.exit(-9)
 
@@ -320,15 +340,14 @@ def set_unless_cancelled(waiter: asyncio.Future[int], status: int) -> None:
         waiter.set_result(status)
 
 
-def spawner(runs: list[Run], alter: Alter) -> Spawn:
-    """How a process starts programs. `alter` is called with each value that one writes, and its
-    answer counts in place of that."""
+def spawner(runs: list[Run], hears: Hears) -> Spawn:
+    """How a process starts programs."""
     async def spawn(process: Process, factory: Callable[[], Any],
                     command: tuple[str, ...]) -> Made:
         chance = process.world.chance(f"start by {process.name}")
         await asyncio.sleep(chance.uniform(1e-3, 5e-3))
         protocol = factory()
-        run = Run(process, protocol, command, alter)
+        run = Run(process, protocol, command, hears)
         runs.append(run)
         protocol.connection_made(run)
         return run, protocol

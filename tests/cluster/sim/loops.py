@@ -79,6 +79,8 @@ class Process(asyncio.AbstractEventLoop):
         self.end(f"ends: {fault!r}" if fault else "ends")
 
     def kill(self) -> None:
+        if not self.dead:
+            self.world.counts["bridges killed"] += 1
         self.end("killed")
 
     def end(self, why: str) -> None:
@@ -210,8 +212,18 @@ class Process(asyncio.AbstractEventLoop):
             self.world.note(self.name, f"unhandled: {told}")
 
     async def create_connection(  # type: ignore[override]
-            self, factory: Any, *_: Any, **__: Any) -> Made:
+            self, factory: Any, *_: Any, **words: Any) -> Made:
+        if (made := words.get("sock")) is not None:  # one that is connected already
+            connected: Made = made.attach(factory)
+            return connected
         return await self.connect(self, factory)
+
+    def add_reader(self, fd: Any, callback: Callable[..., object], *args: Any) -> None:
+        fd.reader = lambda: callback(*args)
+
+    def remove_reader(self, fd: Any) -> bool:
+        fd.reader = None
+        return True
 
     async def subprocess_exec(  # type: ignore[override]
             self, factory: Any, *command: str, **_: Any) -> Made:

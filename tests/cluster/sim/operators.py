@@ -6,7 +6,7 @@ import argparse
 from collections.abc import Callable, Coroutine
 from typing import Any
 
-from lockstep import Alter, Run, spawner
+from lockstep import Hears, Run, spawner
 from loops import Machine, Made, Process
 from servers import ApiServer
 from virtual import World
@@ -18,19 +18,39 @@ WANTED = {"one": 1, "failover": 1, "pair": 2, "three": 3}
 SERVER = "http://api:8001"
 
 
-class Operator:
+class Reaches:
+    """Connects processes to API servers, by chance to one of them. `links` are the connections."""
+
+    def __init__(self, world: World, servers: list[ApiServer]) -> None:
+        self.world, self.servers = world, servers
+        self.links: list[Link] = []
+
+    async def connect(self, process: Process, factory: Callable[[], Any]) -> Made:
+        chance = self.world.chance(f"server for {process.name}")
+        up = [server for server in self.servers if server.up]
+        server = chance.choice(up if up and chance.random() < 0.9 else self.servers)
+        link = Link(process, server)
+        connected = await link.connect(factory)
+        self.links.append(link)
+        if len(self.links) > 100:
+            self.links = [one for one in self.links
+                          if not one.gone and (not one.client_gone or one.up.queue)]
+        return connected
+
+
+class Operator(Reaches):
     def __init__(self, world: World, mode: str, machines: list[Machine], servers: list[ApiServer],
                  serve: Callable[[argparse.Namespace], Coroutine[Any, Any, None]],
-                 options: dict[str, Any], alter: Alter) -> None:
-        self.world, self.mode, self.machines, self.servers = world, mode, machines, servers
+                 options: dict[str, Any], hears: Hears) -> None:
+        super().__init__(world, servers)
+        self.mode, self.machines = mode, machines
         self.serve, self.options = serve, options
         self.bridges: list[Process] = []
         self.runs: list[Run] = []
-        self.spawn = spawner(self.runs, alter)
+        self.spawn = spawner(self.runs, hears)
         self.off: set[str] = set()
         self.leaving: dict[Process, None] = {}  # (in their order)
         self.graves: list[Process] = []
-        self.links: list[Link] = []
         self.unreached = {machine.name: 0.0 for machine in machines}
         self.made = self.starting = self.ends = 0
         for _ in range(WANTED[mode]):
@@ -45,18 +65,6 @@ class Operator:
         process.ended = lambda why: self.ended(process, why)
         self.bridges.append(process)
         process.start(self.serve(argparse.Namespace(**self.options)))
-
-    async def connect(self, process: Process, factory: Callable[[], Any]) -> Made:
-        chance = self.world.chance(f"server for {process.name}")
-        up = [server for server in self.servers if server.up]
-        server = chance.choice(up if up and chance.random() < 0.9 else self.servers)
-        link = Link(process, server)
-        connected = await link.connect(factory)
-        self.links.append(link)
-        if len(self.links) > 100:
-            self.links = [one for one in self.links
-                          if not one.gone and (not one.client_gone or one.up.queue)]
-        return connected
 
     def ended(self, process: Process, _why: str) -> None:
         self.ends += 1

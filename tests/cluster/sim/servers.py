@@ -5,6 +5,7 @@ import io
 import json
 import random
 from collections.abc import Callable
+from dataclasses import dataclass
 from typing import Any
 
 from kinds import BY_NAME
@@ -17,27 +18,72 @@ BOOKMARK_SECONDS = 10.0
 REQUEST_SECONDS = 60.0  # in which a server may carry out a request, from when it received it
 HOP_SECONDS = 600.0  # in which a hop may bring a request that it holds, though its sender is gone
 WRITES = ("PATCH", "PUT", "POST", "DELETE")
+SHOWN = 100  # characters that are noted of what else is asked for
+NAMES = "metallb.io/puts-in-flight"  # the annotation of the Lease (docs/BRIDGE.md, "The fence")
 ALL_REQUESTS = ("reset", "slow", "error", "mute")  # what befalls requests that change nothing too
 Json = dict[str, Any]
 Answers = Callable[[int, Json], None]
 
 
+@dataclass
+class Plan:
+    """What the next put of a service meets with: a fault, of `seconds` where that takes a time, and
+    `soon` seconds later what befalls its sender, if anything does."""
+    fault: str | None
+    seconds: float | None = None
+    strikes: bool = False
+    soon: float = 0.0
+    then: Callable[[], None] = lambda: None
+
+
 class Weather:
     """What goes wrong with requests and watches, each a share of the times that it could. `strikes`
     is how often something befalls the process whose request went wrong. `webhook` is the namespace
-    whose services can't be changed, for a webhook that is down; `errors` the statuses that requests
-    are refused by; `next_puts` the fates of the next changes of a service's status, of a written
-    history."""
+    whose services can't be changed, for a webhook that is down, and `strips` that of one that takes
+    each change out; `errors` are the statuses that requests are refused by; `next_puts` the fates
+    of the next changes of a service's status, of a written history, and `plans` those of one
+    service."""
 
     def __init__(self) -> None:
         self.shares: dict[str, float] = {}
         self.watches: dict[str, float] = {}
         self.webhook: str | None = None
-        self.errors, self.strikes = (500, 503, 429), 0.0
+        self.strips: str | None = None
+        self.errors, self.strikes = (500, 503, 429, 403), 0.0
         self.next_puts: list[tuple[str, float]] = []
-        # The addresses of puts that the webhook refused, and whose fences it refused too.
-        self.doubted: set[str] = set()
+        self.plans: dict[tuple[str, str], Plan] = {}
         self.strike: Callable[[Any, random.Random], None] = lambda process, chance: None
+
+    def planned(self, command: str, path: str, body: str) -> Plan | None:
+        """What is planned of a change of a service's status, once."""
+        if command != "PATCH" or not path.endswith("/status") or "ingress" not in body:
+            return None
+        if self.next_puts:
+            return Plan(*self.next_puts.pop(0))
+        return self.plans.pop(service_of(path), None) if '"ip"' in body else None
+
+
+def service_of(path: str) -> tuple[str, str]:
+    """The namespace and the name of the service that a path is of, else empty texts."""
+    namespace, _, rest = path.partition("/namespaces/")[2].partition("/services/")
+    return (namespace, rest.partition("/")[0]) if rest else ("", "")
+
+
+def brief(path: str, body: str) -> str:
+    """What a change asks for, as a person reads it."""
+    value = json.loads(body or "{}")
+    metadata = value.get("metadata") or {}
+    notes, version = metadata.get("annotations") or {}, metadata.get("resourceVersion")
+    if "/leases/" in path:
+        holder = (value.get("spec") or {}).get("holderIdentity")
+        return f"at {version}: holder {holder}, names {notes.get(NAMES, '[]')}"
+    if "/services/" in path:
+        status = value.get("status")
+        if status is None:
+            return f"at {version}: a fence"
+        ingress = (status.get("loadBalancer") or {}).get("ingress") or []
+        return f"at {version}: a put of {','.join(one['ip'] for one in ingress) or 'no address'}"
+    return body[:SHOWN]
 
 
 def drawn(shares: dict[str, float], chance: random.Random) -> str | None:
@@ -68,14 +114,20 @@ class Asked(Handler):
 
     def watch(self, kind: Any, selection: Selection, asked: dict[str, str]) -> None:
         initial, given = asked.get("sendInitialEvents"), asked.get("resourceVersion", "")
+        if initial and self.server.is_old:
+            raise Refused(422, "sendInitialEvents is forbidden for watch")
         begins = initial == "true" or given in ("", "0") and initial != "false"
         self.watched = kind, selection, None if begins else int(given), initial == "true"
 
 
 class ApiServer:
-    def __init__(self, world: World, store: Store, name: str, weather: Weather) -> None:
+    """`is_old`: it begins no watch with what there is, and lists in pages of `page`."""
+
+    def __init__(self, world: World, store: Store, name: str, weather: Weather,
+                 is_old: bool = False) -> None:
         self.world, self.store, self.name, self.weather = world, store, name, weather
         self.up, self.lag, self.faults, self.log = True, 0.0, Faults(), None
+        self.is_old, self.page = is_old, 3
         self.seen: int = store.version
         self.exchanges: list[Exchange] = []
         store.on_change.append(self.changed)
@@ -105,6 +157,19 @@ class ApiServer:
         for exchange in list(self.exchanges):
             if exchange.stream and exchange.stream.ended:
                 exchange.stream.mark({})
+
+    def expire(self, process: object) -> None:
+        """The watches of services that a process has expire."""
+        for exchange in list(self.exchanges):
+            stream = exchange.stream
+            if stream and exchange.link.process is process and stream.kind.name == "Service":
+                stream.write_error()
+
+    def silence(self, process: object) -> None:
+        """Nothing more comes by the watches that a process has, though each connection stands."""
+        for exchange in self.exchanges:
+            if exchange.stream and exchange.link.process is process:
+                exchange.link.is_mute = True
 
     def crash(self) -> None:
         self.world.note(self.name, "down")
@@ -160,25 +225,28 @@ class Exchange:
         weather, random, after = self.server.weather, self.link.random, self.world.after
         is_write = command in WRITES
         self.told = f"{self.link.process.name} {command} {path.partition('?')[0]}"
-        self.told += f" {body}" if is_write else ""
+        self.told += f" {brief(path, body)}" if is_write else ""
         shares = {name: share for name, share in weather.shares.items()
                   if is_write or name in ALL_REQUESTS}
         fault, soon, held = drawn(shares, random), random.uniform(5e-4, 8e-3), None
-        if weather.next_puts and is_write and path.endswith("/status") and "ingress" in body:
-            fault, held = weather.next_puts.pop(0)
+        plan = weather.planned(command, path, body)
+        if plan:
+            fault, held = plan.fault, plan.seconds
         if fault:
             self.world.note(self.server.name, f"{fault}: {self.told}")
-            if is_write and random.random() < weather.strikes:
-                pause = random.choice((0.0, 0.01, 1.0)) * random.random()
-                after(pause, weather.strike, self.link.process, random)
-        if self.is_refused_by_webhook(command, path):
-            status = json.loads(body).get("status") or {}
-            ingress = (status.get("loadBalancer") or {}).get("ingress") or []
-            weather.doubted |= {one["ip"] for one in ingress}
-            told = "Internal error occurred: failed calling webhook"
-            after(soon, self.answer, 500, {"kind": "Status", "message": told})
-        else:
-            self.meet(fault, make, soon, held)
+        if plan:
+            self.befall(plan, random)
+        elif fault and is_write and random.random() < weather.strikes:
+            pause = random.choice((0.0, 0.01, 1.0)) * random.random()
+            after(pause, weather.strike, self.link.process, random)
+        self.meet(fault, make, soon, held)
+
+    def befall(self, plan: Plan, random: random.Random) -> None:
+        """What is planned for when a put is out."""
+        if plan.strikes:
+            strike = self.server.weather.strike
+            self.world.after(plan.soon, strike, self.link.process, random)
+        plan.then()
 
     def meet(self, fault: str | None, make: Callable[[], Asked], soon: float,
              held: float | None) -> None:
@@ -195,6 +263,7 @@ class Exchange:
                 else:
                     self.link.is_mute = True
                 seconds = random.uniform(0, HOP_SECONDS) if held is None else held
+                seconds = min(seconds, HOP_SECONDS)
                 after(seconds, self.carry_out, make, None, True)
             case "resent":  # the first answer is lost
                 after(soon, self.carry_out, make, lambda *_: None)
@@ -214,21 +283,27 @@ class Exchange:
             case _:
                 after(soon, self.carry_out, make)
 
-    def is_refused_by_webhook(self, command: str, path: str) -> bool:
-        """Of an object that isn't there the server itself tells so."""
-        namespace = self.server.weather.webhook
-        services = self.server.store.objects[BY_NAME["Service"]]
-        named = path.partition("/services/")[2].partition("/")[0]
-        return bool(namespace and command in WRITES
-                    and f"/namespaces/{namespace}/services/" in path
-                    and (namespace, named) in services)
+    def by_webhook(self, command: str, path: str) -> tuple[int, Json] | None:
+        """What a webhook has a change of a service answered, where it is down or takes the change
+        out. Of an object that isn't there the server itself tells so."""
+        weather, key = self.server.weather, service_of(path.partition("?")[0])
+        service = self.server.store.objects[BY_NAME["Service"]].get(key)
+        if service is None or command not in WRITES:
+            return None
+        if key[0] == weather.webhook:
+            told = "Internal error occurred: failed calling webhook"
+            return 500, {"kind": "Status", "message": told}
+        return (200, service) if key[0] == weather.strips else None
 
     def carry_out(self, make: Callable[[], Asked], answer: Answers | None = None,
                   held: bool = False) -> None:
         if not self.server.up and not held:
             return
         asked = make()
-        asked.serve()
+        if answered := self.by_webhook(asked.command, asked.path):
+            asked.answer(*answered)
+        else:
+            asked.serve()
         if asked.watched:
             if not self.over:
                 self.begin_watch(*asked.watched)

@@ -1,11 +1,16 @@
 """What goes wrong: each trouble has a time, a kind and a seed of its own, so that one can be left
 out without changing the others; or it is written, with what it says in place of the seed."""
-import math
+import contextlib
+from collections.abc import Callable
 from random import Random
 from typing import TYPE_CHECKING, Any, NamedTuple
 
 from kinds import BY_NAME
 from loops import Machine, Process
+from rules import POOL
+from servers import Plan
+from store import MERGE, Refused
+from users import METALLB, custom
 
 if TYPE_CHECKING:
     from history import History
@@ -13,12 +18,20 @@ if TYPE_CHECKING:
 
 REQUESTS = ("reset", "lost", "slow", "error", "stored", "mute", "held", "resent")
 LONGEST = 300.0  # seconds of a trouble
+LENGTHS = (0.5, 1.5, 5.0, 15.0, 50.0, 150.0, LONGEST)
+# Times the mean between two troubles. (No logarithm: its last bit may be another elsewhere.)
+GAPS = (0.05, 0.2, 0.5, 1.0, 1.5, 2.75)
 WATCHES = ("break", "expire", "mute")
 BOTH = (("up", "down"), ("up", "down"), ("up",), ("down",))
-STRIKES = ("kill", "cut", "pause", "off", "crash")
+STRIKES = ("kill", "cut", "pause", "off", "crash", "expire", "leave")
 KINDS = ["kill", "crash", "freeze", "pause", "suspend", "clock", "off", "roll", "cut", "down",
-         "stale", "storm", "watches", "compact", "webhook", "lease", "pools"]
+         "stale", "storm", "watches", "silence", "compact", "webhook", "strip", "lease", "gone",
+         "pools", "contest"]
+GONE = 0.85  # of a history's time, before which nobody deletes the Lease: nothing is done after
+PUT_FAULTS = (*["held"] * 6, *["lost", "stored", "resent", "reset", "slow", "mute"] * 2, None)
+SPACES = ("default", "team-a", "team-b")
 Said = dict[str, Any]
+Key = tuple[str, str]
 
 
 class Trouble(NamedTuple):
@@ -29,22 +42,29 @@ class Trouble(NamedTuple):
 
 def drawn(random: Random, seconds: float, kinds: list[str]) -> list[Trouble]:
     """The troubles of a history, in their order. Of each history some kinds are chosen, so that
-    each may come in crowds, and alone; in half of them requests go wrong."""
+    each may come in crowds, and alone; in half of them requests go wrong, and in half of them
+    services contend, at the last just before all ceases."""
     chosen = random.sample(kinds, random.randint(1, min(6, len(kinds))))
     if "storm" in kinds and random.random() < 0.5:
         chosen += ["storm"] * len(chosen)
+    if "contest" in kinds and random.random() < 0.5:
+        chosen += ["contest"] * len(chosen)
     pace, edits = random.choice((0.7, 2.0, 6.0, 20.0)), random.choice((0.2, 0.5, 0.8, 0.95))
     at, found = 0.0, []
-    while (at := at + random.expovariate(1 / pace)) < seconds:
+    while (at := at + pace * random.choice(GAPS) * random.uniform(0, 2)) < seconds:
         is_edit = random.random() < edits
         kind = random.choice(("edit", "edit", "edit", "burst") if is_edit else chosen)
-        found.append(Trouble(at, kind, random.getrandbits(32)))
-    return found
+        if kind != "gone" or at > GONE * seconds:
+            found.append(Trouble(at, kind, random.getrandbits(32)))
+    if "contest" in kinds and random.random() < 0.5:
+        found.append(Trouble(max(at, seconds - random.uniform(1, 60)), "contest",
+                             random.getrandbits(32)))
+    return sorted(found)
 
 
 def length(random: Random) -> float:
     """Seconds, from less than one to five minutes."""
-    return math.exp(random.uniform(math.log(0.3), math.log(LONGEST)))
+    return random.choice(LENGTHS) * random.uniform(0.5, 1)
 
 
 class Harm:
@@ -89,14 +109,82 @@ class Harm:
             self.world.after(random.uniform(0, 1), self.edit, Random(random.getrandbits(32)))
 
     def pools(self, random: Random) -> None:
-        """All pools are deleted, and made anew a while later."""
+        """All pools are deleted, and made anew a while later; or never, where nothing is kept back
+        for that."""
         pools = dict(self.history.store.objects[BY_NAME["IPAddressPool"]])
         for namespace, name in pools:
             self.history.store.delete(BY_NAME["IPAddressPool"], (namespace, name))
+        if not self.history.is_guarded and random.random() < 0.5:
+            return
         pause = length(random) / 3
         for pool in pools.values():
             self.world.after(pause, self.make_pool, {**pool, "metadata": {
                 "namespace": pool["metadata"]["namespace"], "name": pool["metadata"]["name"]}})
+
+    def contest(self, random: Random) -> None:
+        """Two services want one address. The put of the first one meets with a fault, and soon
+        something befalls the bridge that sent it; a webhook may be down then, and somebody may edit
+        the service, or delete it and make it anew."""
+        number = random.randrange(6)
+        one, two = random.choice(SPACES), random.choice(SPACES)
+        if random.random() < 0.7:  # the second one comes before the first in their order
+            one, two = max(one, two), min(one, two)
+        first, second = (one, f"z{number}"), (two, random.choice((f"b{number}", f"b{number}",
+                                                                  f"zz{number}")))
+        pool = custom("IPAddressPool", f"x{number}", {"addresses": [f"203.0.113.{number}/32"],
+                                                      "autoAssign": False})
+        for key in (first, second):
+            self.unmake(key)
+        self.tried(self.history.store.put, pool)
+        self.history.weather.plans[first] = Plan(
+            random.choice(PUT_FAULTS), length(random) * random.choice((1, 3)),
+            random.random() < 0.8, random.choice((0.0, 0.0, 0.1, 2.0, 10.0)) * random.random(),
+            lambda: self.contend(first, random))
+        self.wants(first, f"x{number}")
+        self.world.after(random.choice((0.0, 1.0, 20.0, 120.0)) * random.random(), self.wants,
+                         second, f"x{number}")
+
+    def contend(self, key: Key, random: Random) -> None:
+        """What happens while the put of a contest is out."""
+        after = self.world.after
+        if random.random() < 0.25 and "webhook" not in self.without:
+            after(random.uniform(0, 1), self.close_to, key[0], random.uniform(5, 200))
+        if random.random() < 0.2:
+            after(length(random) / 3, self.touch, key)
+        elif random.random() < 0.2:
+            pause = length(random) / 3
+            after(pause, self.unmake, key)
+            after(pause + random.choice((0.0, 1.0, 60.0)) * random.random(), self.wants, key,
+                  f"x{key[1][1:]}")
+
+    def close_to(self, namespace: str, seconds: float) -> None:
+        """A webhook for the services of the namespace is down."""
+        if not self.history.is_calm:
+            self.world.note("trouble", f"a webhook is down for {namespace}")
+            weather = self.history.weather
+            weather.webhook = namespace
+            self.world.after(seconds, setattr, weather, "webhook", None)
+
+    def wants(self, key: Key, pool: str) -> None:
+        """The service is there, and asks for that pool."""
+        spec = {"type": "LoadBalancer", "selector": {"app": key[1]}, "ports": [{"port": 80}]}
+        metadata = {"namespace": key[0], "name": key[1], "annotations": {POOL: pool}}
+        self.tried(self.history.store.put, {"apiVersion": "v1", "kind": "Service", "spec": spec,
+                                            "metadata": metadata})
+
+    def unmake(self, key: Key) -> None:
+        self.tried(self.history.store.delete, BY_NAME["Service"], key)
+
+    def touch(self, key: Key) -> None:
+        """A user edits the service in something that no program reads."""
+        labels = {"metadata": {"labels": {"edit": str(self.history.store.version)}}}
+        self.tried(self.history.store.patch, BY_NAME["Service"], key, labels, MERGE)
+
+    def tried(self, edit: Callable[..., object], *args: object) -> None:
+        """A user's edit, which may be refused."""
+        if not self.history.is_calm:
+            with contextlib.suppress(Refused):
+                edit(*args)
 
     def make_pool(self, pool: Said) -> None:
         if not self.history.is_calm:
@@ -155,6 +243,29 @@ class Harm:
     def roll(self, _random: Random) -> None:
         self.history.operator.roll()
 
+    def leave(self, random: Random) -> None:
+        """A bridge is told to end."""
+        if bridge := self.a_bridge(random):
+            self.history.operator.stop(bridge)
+
+    def expire(self, random: Random) -> None:
+        """The watches of services that a bridge has expire, soon."""
+        if bridge := self.a_bridge(random):
+            pause = random.choice((0, 0.1, 10)) * random.random()
+            for server in self.history.servers:
+                self.world.after(pause, server.expire, bridge)
+
+    def silence(self, random: Random) -> None:
+        """No watch of a bridge tells anything more, and none ends."""
+        if bridge := self.a_bridge(random):
+            for server in self.history.servers:
+                server.silence(bridge)
+
+    def gone(self, _random: Random) -> None:
+        """Somebody deletes the Lease, which nobody may: its names are lost. It is made anew once
+        nothing is under way any more."""
+        self.history.delete_lease()
+
     def lease(self, random: Random) -> None:
         """Somebody takes the Lease away from its holder, as a user may: its names stay."""
         self.history.take_lease("" if random.random() < 0.5 else "somebody")
@@ -170,6 +281,7 @@ class Harm:
         self.cut_off(machine, ways, min(LONGEST, length(random) * self.stretch))
 
     def cut_off(self, machine: Machine, ways: set[tuple[str, str]], seconds: float) -> None:
+        self.world.counts["cuts"] += 1
         self.world.note(machine.name, f"cut off: {sorted(ways)}")
         machine.cut |= ways
         self.world.after(seconds, self.mend, machine, ways)
@@ -225,9 +337,15 @@ class Harm:
     def webhook(self, random: Random) -> None:
         """A webhook for the services of one namespace is down. In half of the cases it stays so."""
         weather = self.history.weather
-        weather.webhook = random.choice(("team-a", "team-b", "default"))
+        weather.webhook = random.choice(SPACES)
         if random.random() < 0.5:
             self.world.after(length(random), setattr, weather, "webhook", None)
+
+    def strip(self, random: Random) -> None:
+        """A webhook takes each change of a service of one namespace out."""
+        weather = self.history.weather
+        weather.strips = random.choice(SPACES)
+        self.world.after(length(random), setattr, weather, "strips", None)
 
     # What a written history says
 
@@ -239,8 +357,14 @@ class Harm:
     def said_make(self, said: Said) -> None:
         self.history.store.put(said["object"])
 
+    def said_give(self, said: Said) -> None:
+        """A service has an address, as a controller of MetalLB's leaves it."""
+        status = {"loadBalancer": {"ingress": [{"ip": said["address"]}]}}
+        self.history.store.patch(BY_NAME["Service"], (said["namespace"], said["name"]),
+                                 {"status": status}, MERGE, True)
+
     def said_delete(self, said: Said) -> None:
-        kind, namespace = BY_NAME[said["kind"]], said.get("namespace", "metallb-system")
+        kind, namespace = BY_NAME[said["kind"]], said.get("namespace", METALLB)
         self.history.store.delete(kind, (namespace, said["name"]))
 
     def said_put(self, said: Said) -> None:
@@ -268,6 +392,32 @@ class Harm:
             ways = {(server.name, way) for server in self.history.servers
                     for way in said.get("ways", ("up", "down"))}
             self.cut_off(bridge.machine, ways, said["seconds"])
+
+    def said_stale(self, said: Said) -> None:
+        server = next(one for one in self.history.servers if one.name == said["server"])
+        server.lag = said["lag"]
+        self.world.after(said["seconds"], setattr, server, "lag", 0.0)
+
+    def said_gone(self, _said: Said) -> None:
+        self.history.delete_lease()
+
+    def said_expire(self, said: Said) -> None:
+        if bridge := self.named(said):
+            for server in self.history.servers:
+                server.expire(bridge)
+
+    def said_silence(self, said: Said) -> None:
+        if bridge := self.named(said):
+            for server in self.history.servers:
+                server.silence(bridge)
+
+    def said_strip(self, said: Said) -> None:
+        weather = self.history.weather
+        weather.strips = said["namespace"]
+        self.world.after(said["seconds"], setattr, weather, "strips", None)
+
+    def said_edit(self, said: Said) -> None:
+        self.touch((said["namespace"], said["name"]))
 
     def said_webhook(self, said: Said) -> None:
         weather = self.history.weather

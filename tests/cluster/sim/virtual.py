@@ -17,6 +17,7 @@ class World:
         self.now, self.count = 0.0, 0
         self.heap: list[tuple[float, int, Callable[..., object], tuple[Any, ...]]] = []
         self.drawn: collections.Counter[str] = collections.Counter()
+        self.counts: collections.Counter[str] = collections.Counter()  # of what befell whom
         self.hash, self.notes = hashlib.sha256(), 0
 
     def stream(self, name: str, salted: bool = True) -> random.Random:

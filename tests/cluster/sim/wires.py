@@ -5,18 +5,29 @@ import asyncio
 import random
 from collections import deque
 from collections.abc import Callable
-from typing import TYPE_CHECKING, Any
+from typing import Any, Protocol
 
 from loops import Made, Process
-
-if TYPE_CHECKING:
-    from servers import ApiServer, Exchange
 
 # seconds until what wasn't received is sent again, the first and at most, and until it is given up
 SHORTEST, LONGEST, GIVE_UP = 0.2, 120.0, 924.0
 CONNECT = (1, 2, 4, 8, 16, 32, 64)  # seconds between the tries to connect
 END, RESET = "end", "reset"
 What = bytes | str  # octets, or END or RESET
+
+
+class End(Protocol):
+    """The end of a link at a server."""
+
+    def received(self, what: What) -> None: ...
+
+
+class Server(Protocol):
+    """What processes connect to."""
+    name: str
+    up: bool
+
+    def begin(self, link: "Link") -> End: ...
 
 
 class Way:
@@ -35,9 +46,10 @@ class Way:
 
     def try_now(self) -> None:
         link = self.link
-        if link.gone:
+        if link.gone or link.is_mute:
             self.busy = False
-        elif (link.server.name, self.name) in link.machine.cut or link.is_mute:
+            self.queue.clear()
+        elif (link.server.name, self.name) in link.machine.cut:
             self.waited += self.pause
             if self.waited > GIVE_UP:
                 link.give_up()
@@ -53,10 +65,11 @@ class Way:
 
 class Link(asyncio.Transport):
     """A connection; for the process it is a transport of asyncio. `is_mute`: nothing gets through
-    any more, and no side is told. `random` is its chance, from its request on that of the request:
-    by the process, what is asked, and how often it was."""
+    any more, as behind a hop that holds both sides' connections, and no side is ever told. `random`
+    is its chance, from its request on that of the request: by the process, what is asked, and how
+    often it was."""
 
-    def __init__(self, process: Process, server: "ApiServer") -> None:
+    def __init__(self, process: Process, server: Server) -> None:
         super().__init__()
         self.process, self.machine, self.world = process, process.machine, process.world
         self.server = server
@@ -67,24 +80,33 @@ class Link(asyncio.Transport):
         self.is_mute: bool = False
         self.closing = self.client_gone = self.is_asked = False
         self.up, self.down = Way(self, "up", self.at_server), Way(self, "down", self.at_client)
-        self.exchange: "Exchange | None" = None
+        self.exchange: End | None = None
 
     def latency(self) -> float:
         return self.random.uniform(1e-4, 2e-3)
 
     async def connect(self, factory: Callable[[], Any]) -> Made:
+        await self.reach()
+        return self.attach(factory)
+
+    async def reach(self) -> None:
+        """Waits until the server answers."""
         for pause in CONNECT:
             if not {(self.server.name, "up"), (self.server.name, "down")} & self.machine.cut:
                 await asyncio.sleep(self.latency())
                 if not self.server.up:
                     raise ConnectionRefusedError(111, "connection refused")
-                self.protocol = factory()
-                self.exchange = self.server.begin(self)
-                self.process.resources.append(self)
-                self.protocol.connection_made(self)
-                return self, self.protocol
+                return
             await asyncio.sleep(pause)
         raise TimeoutError(110, "connection timed out")
+
+    def attach(self, factory: Callable[[], Any]) -> Made:
+        """The connection is there."""
+        self.protocol = factory()
+        self.exchange = self.server.begin(self)
+        self.process.resources.append(self)
+        self.protocol.connection_made(self)
+        return self, self.protocol
 
     # What arrives
 
@@ -133,7 +155,7 @@ class Link(asyncio.Transport):
         octets = bytes(data)
         if not self.is_asked:
             self.is_asked = True
-            asked = octets.partition(b" HTTP/1.1")[0].partition(b"?")[0].decode()
+            asked = octets.partition(b" HTTP/1.1")[0].partition(b"?")[0].decode(errors="replace")
             self.random = self.world.chance(f"{self.process.name} {asked}")
         self.up.send(octets)
 

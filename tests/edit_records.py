@@ -6,16 +6,22 @@ from collections.abc import Iterable, Iterator
 from dataclasses import dataclass
 from pathlib import Path
 
+import across_edits
+
 HEAD = "crate\tedit\tchecksum\tday"
 PARTS = ("src", "specs", "proofs")
 
 
 @dataclass(frozen=True, order=True)
 class Edit:
-    """An edit of a crate, by their names."""
+    """An edit of a crate, by their names; `across` stands for the crate of one of several."""
 
     crate: str
     name: str
+
+    @property
+    def is_across(self) -> bool:
+        return self.crate == across_edits.FOLDER
 
     def __str__(self) -> str:
         return f"{self.crate}/{self.name}"
@@ -23,7 +29,8 @@ class Edit:
 
 @dataclass(frozen=True)
 class Refusal:
-    """The crate's checksum when the edit was last refused, and the day (UTC, as 2026-12-01)."""
+    """The checksum of what it is tried on when the edit was last refused, and the day (UTC, as
+    2026-12-01)."""
 
     checksum: str
     day: str
@@ -41,10 +48,19 @@ def edit_of(top: Path, file: Path) -> Edit:
     return Edit(parts[1] if parts[0] == "crates" else parts[2], file.stem)
 
 
-def checksum_of(top: Path, crate: str) -> str:
-    """A checksum of the crate's code, definitions and proofs."""
+def crates_of(top: Path, edit: Edit) -> set[str]:
+    """The crates that the edit turns, and the one that refuses it."""
+    if not edit.is_across:
+        return {edit.crate}
+    file = top / "tests/edits.d" / across_edits.FOLDER / f"{edit.name}.edit"
+    across = across_edits.read_across(file.read_text())
+    return across.crates() | {across.refused_by}
+
+
+def checksum_of(top: Path, crates: Iterable[str]) -> str:
+    """A checksum of the crates' code, definitions and proofs."""
     total = hashlib.sha256()
-    for file in sorted(files_of(top / "crates" / crate)):
+    for file in sorted(it for crate in crates for it in files_of(top / "crates" / crate)):
         total.update(f"{file.relative_to(top).as_posix()}\0".encode())
         total.update(hashlib.sha256(file.read_bytes()).digest())
     return total.hexdigest()[:16]
@@ -79,12 +95,13 @@ def stale_edits(
 ) -> dict[str, list[str]]:
     """By crate, the edits that weren't seen refused since it changed, each with the day."""
     found: dict[str, list[str]] = {}
-    sums: dict[str, str] = {}
+    sums: dict[frozenset[str], str] = {}
     for edit in edits:
         refusal = refusals.get(edit)
-        if edit.crate not in sums:
-            sums[edit.crate] = checksum_of(top, edit.crate)
-        if refusal is None or refusal.checksum != sums[edit.crate]:
+        crates = frozenset(crates_of(top, edit))
+        if crates not in sums:
+            sums[crates] = checksum_of(top, crates)
+        if refusal is None or refusal.checksum != sums[crates]:
             day = "never" if refusal is None else refusal.day
             found.setdefault(edit.crate, []).append(f"{edit.name} ({day})")
     return found

@@ -105,10 +105,20 @@ class Cluster:
                            KUBELETS) for name in self.numbers)
         things = [place, *leases, *things]
         threading.Thread(target=self.renew, daemon=True).start()
-        load, server = self.folder / "things.json", TOP / "tests/cluster/server"
+        load = self.folder / "things.json"
         load.write_text(json.dumps({"kind": "List", "items": things}))
-        words = ["--host", SERVER_ADDRESS, "--port", "8080", "--load", str(load)]
-        self.server = self.started("server", sys.executable, str(server), *words)
+        self.run_server("--load", str(load))
+
+    def run_server(self, *words: str) -> None:
+        """Starts the server, with what was stored when it was ended last."""
+        server, kept = TOP / "tests/cluster/server", str(self.folder / "stored")
+        given = ["--host", SERVER_ADDRESS, "--port", "8080", "--kept", kept, *words]
+        self.server = self.started("server", sys.executable, str(server), *given)
+
+    def end_server(self) -> None:
+        """Ends the server: connections end, and none comes about."""
+        self.server.terminate()
+        self.server.wait()
 
     def renew(self) -> None:
         """What the kubelets of the nodes do that are alive."""

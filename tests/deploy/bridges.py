@@ -197,7 +197,40 @@ def speaks(tally: Tally, place: Place) -> None:
     tally.check("it tells what becomes of its session, which nobody answers",
                 until(lambda: "session with r: " in one.told()))
     stands_back(tally, place, one)
+    tells_where(tally, place, one)
+
+
+def tells_where(tally: Tally, place: Place, one: Bridge) -> None:
+    """The Event that says where a service is announced, once, and counted by the next start."""
+    cluster = place.cluster
+    made = roster("n1")
+    made["metadata"] |= {"name": "a-1", "namespace": "default",
+                         "labels": {"kubernetes.io/service-name": "a"}}
+    cluster.put(made)
+    cluster.put(resource("L2Advertisement", "l", {}))
+    told = 'announcing from node "n1" with protocol "layer2"'
+
+    def counts() -> list[int]:
+        events = cluster.ask("GET", "/api/v1/namespaces/default/events")["items"]
+        return [event["count"] for event in events if event["message"] == told]
+    tally.check("an Event says which node announces a service", until(lambda: counts() == [1]),
+                counts())
     tally.check("it ends in order", one.stop() == 0)
+    two = Bridge(place.folder, "speaker2", "speaker", *one.words)
+    tally.check("and the next start counts it", until(lambda: counts() == [2]), counts())
+    tally.check("the second one ends in order too", two.stop() == 0)
+
+
+def counted(tally: Tally, place: Place) -> None:
+    """A controller that is started anew counts the Events that there are."""
+    one = Bridge(place.folder, "third", "controller", "--program",
+                 place.program("mlb_controller"), "--lease-seconds", 1, *place.words)
+
+    def is_counted() -> bool:
+        return any(account == "controller" and method == "PATCH" and "/events/" in path
+                   for account, method, path in list(place.front.asked))
+    tally.check("a controller that is started anew counts its Events", until(is_counted))
+    one.stop()
 
 
 def stands_back(tally: Tally, place: Place, one: Bridge) -> None:

@@ -85,7 +85,8 @@ def try_rights(tally: Tally, asked: set[tuple[str, str, str]]) -> None:
                 for account, all_ in rights.items() for each in all_
                 if each.verb not in ("get", "list", "watch")}
     least = {("controller", "services/status", "patch", None, None),
-             ("controller", "events", "create", None, None),
-             ("controller", "leases", "update", SYSTEM, "controller")}
-    tally.check("the controller alone may change something: statuses, its Lease, and Events",
+             ("controller", "leases", "update", SYSTEM, "controller"),
+             *((account, "events", verb, None, None) for account in ("controller", "speaker")
+               for verb in ("create", "patch"))}
+    tally.check("the controller alone may change something but Events: statuses and its Lease",
                 changing == least, sorted(changing ^ least, key=str))

@@ -16,7 +16,7 @@ class Bridge:
 
     def __init__(self, folder: pathlib.Path, name: str, *words: object,
                  inside: pathlib.Path | None = None) -> None:
-        self.log = folder / f"{name}.log"
+        self.log, self.words = folder / f"{name}.log", words[1:]
         command: list[object] = [sys.executable, "-B", TOP / "bridge"]
         if inside:
             command = ["chroot", inside, "/usr/bin/python3.11", "-B", "/bridge"]

@@ -4,3 +4,4 @@ pub mod Taking
 pub mod Staying
 pub mod Runs
 pub mod Going
+pub mod HeldBack

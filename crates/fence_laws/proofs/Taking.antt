@@ -29,7 +29,7 @@ use Rattle.put_fence.specs.Fences.{answered, asking, check_behind, check_request
 use Rattle.put_fence.specs.Fences.{checked, listing_told, may_send, named_by, named_in, naming_told, reads, renewed, renewed_by, sending, sending_by, sent_told, shows_gone}
 use Rattle.put_fence.specs.Fences.{ticked, waiting_told, wanted, wanted_by, wanted_free}
 use Rattle.put_fence.specs.Fences.{behind_chase, but_first, chased, chased_by, chasing_on, chasing_told, checking_on, first_last, is_full, is_owed, owed_and, owes}
-use Rattle.put_fence.specs.Fences.{relisted, relisted_by, relisting_told}
+use Rattle.put_fence.specs.Fences.{forgets, is_gone, is_held_back, relisted, relisted_by, relisting_told, sees_gone}
 use Rattle.fence_laws.specs.Follows.{Directory, ChecksAbsent, ChecksAt, IsAdmitted, IsAnswer, IsAt, IsFencing, IsNaming, IsOut, Knows}
 use Rattle.fence_laws.specs.Follows.{asked_of, done_of, happened, gives_up, lease_of, name_at, names_of, put_of, read_of, reads_at}
 use Rattle.fence_laws.specs.Runs.{AreEarlier, FenceFollows, IsFollowed}
@@ -45,6 +45,10 @@ by-if P false x y first second = second refl
 or-left : (b d : Bool) → (b || d) ≡ false → b ≡ false
 or-left true d e = absurd (true≢false e)
 or-left false d e = refl
+
+-- a put that isn't held back is of no service of which one is owed
+goes-unowed : (put : Put) (k : Known) → is_held_back put k ≡ false → is_owed put k ≡ false
+goes-unowed put k goes = or-left (is_owed put k) (is_full k) (or-left (is_owed put k || is_full k) (is_gone put k) goes)
 
 module _ (who : Directory) (i : ℕ) where
   -- what is done, from this stage
@@ -69,6 +73,16 @@ module _ (who : Directory) (i : ℕ) where
   checks-on c k stage call knows at =
       let f : Fence = record { known = k; stage = stage } in
       subst (λ (happenings : List Happening). IsFollowed who i happenings c f) (sym (check-asks call f)) (stays c k stage knows at)
+
+  -- what is kept of gone puts is nothing that the cluster knows of
+  sees-knows : (c : Cluster) (put : Put) (k : Known) → KnowsAt c k → KnowsAt c (sees_gone put k)
+  sees-knows c put k knows = record { named = knows.named; asked = knows.asked; seen = knows.seen; owed = knows.owed }
+
+  forgets-knows : (c : Cluster) (put : Put) (k : Known) → KnowsAt c k → KnowsAt c (forgets put k)
+  forgets-knows c put k knows = record { named = knows.named; asked = knows.asked; seen = knows.seen; owed = knows.owed }
+
+  anew-knows : (c : Cluster) (k : Known) → KnowsAt c k → (let next : Known = record k { gone = [] } in KnowsAt c next)
+  anew-knows c k knows = record { named = knows.named; asked = knows.asked; seen = knows.seen; owed = knows.owed }
 
   -- ---- the Lease
 
@@ -226,7 +240,7 @@ module _ (who : Directory) (i : ℕ) where
 
     relisted-by : (owed : List ServiceVersion) (k : Known) → k.owed ≡ owed → KnowsAt c k → (c.bridges i).phase ≡ clusters.Free
         → IsDone c (Free Idle) (relisted_by owed k)
-    relisted-by [] k e knows free = (stays c k Relisting knows (free, e), tt)
+    relisted-by [] k e knows free = (stays c (record k { gone = [] }) Relisting (anew-knows c k knows) (free, e), tt)
     relisted-by (n ∷ more) k e knows free = (stays c k (Free Idle) knows free, tt)
 
     relisted-done : (stage : Stage) (k : Known) → KnowsAt c k → IsAt stage k c.store (c.bridges i) → IsDone c stage (relisted stage k)
@@ -249,16 +263,16 @@ module _ (who : Directory) (i : ℕ) where
     wanted-done (Fencing call next) put k knows at wants = (stays c k (Fencing call next) knows at, tt)
     wanted-done Listing put k knows at wants = (stays c k Listing knows at, tt)
     wanted-done (Free call) put k knows at wants =
-        by-if (IsDone c (Free call)) (is_owed put k || is_full k) _ _ (λ held. (refuses who i c k (Free call) knows at (λ b free. free), tt))
-        (λ goes. wanted-free call put k knows (record { free = at; wants = wants; unowed = or-left (is_owed put k) (is_full k) goes }))
+        by-if (IsDone c (Free call)) (is_held_back put k) _ _ (λ held. (refuses who i c k (Free call) knows at (λ b free. free), tt))
+        (λ goes. wanted-free call put k knows (record { free = at; wants = wants; unowed = goes-unowed put k goes }))
     wanted-done (Naming other call) put k knows at wants = (stays c k (Naming other call) knows at, tt)
     wanted-done (Sent other) put k knows at wants = (stays c k (Sent other) knows at, tt)
     wanted-done (Checking other call tries) put k knows at wants = (stays c k (Checking other call tries) knows at, tt)
     wanted-done (Chasing call None) put k knows at wants =
-        by-if (IsDone c (Chasing call None)) (is_owed put k || is_full k) _ _
+        by-if (IsDone c (Chasing call None)) (is_held_back put k) _ _
         (λ held. (refuses who i c k (Chasing call None) knows at (λ b free. free), tt))
         (λ goes.
-        (stays c k (Chasing call (Some put)) knows (record { free = at; wants = wants; unowed = or-left (is_owed put k) (is_full k) goes }), tt))
+        (stays c k (Chasing call (Some put)) knows (record { free = at; wants = wants; unowed = goes-unowed put k goes }), tt))
     wanted-done (Chasing call (Some other)) put k knows at wants = (stays c k (Chasing call (Some other)) knows at, tt)
     wanted-done Relisting put k knows at wants = (stays c k Relisting knows at, tt)
     wanted-done Lost put k knows at wants = (stays c k Lost knows tt, tt)
@@ -437,7 +451,7 @@ module _ (who : Directory) (i : ℕ) where
       sent-done : (answer : Answer) (put : Put) (k : Known) → KnowsAt c k → IsOut put (c.bridges i) → IsAnswer who past answer (Sent put) k (c.bridges i)
           → IsTaken c answer (Sent put) (sent_told put answer k)
       sent-done (answers.Lease lease) put k knows at told = (stays c k (Sent put) knows at, tt)
-      sent-done (answers.At version) put k knows at told = (hears who i c version k (Free Idle) knows told.1 (λ b free. free), tt)
+      sent-done (answers.At version) put k knows at told = (hears who i c version (forgets put k) (Free Idle) (forgets-knows c put k knows) told.1 (λ b free. free), tt)
       sent-done answers.Listed put k knows at told = (stays c k (Sent put) knows at, tt)
       sent-done answers.Missing put k knows at told = (stays c k (Checking put checks.Get 0) knows at, tt)
       sent-done answers.Refused put k knows at told = (stays c k (Checking put checks.Get 0) knows at, tt)
@@ -464,8 +478,11 @@ module _ (who : Directory) (i : ℕ) where
           by-if (IsDone c old) (is_other answer) _ _ (λ other. (stays c k old knows at, tt))
           (λ service.
           by-if (IsDone c old) (shows_gone put.version answer) _ _
-          (λ shown.
-          (gives-up who i c put k (Free Idle) knows at.out at.wants (inl (gone-by answer (named_by put) old k refl told shown)) (λ b free. free), tt))
+          (λ shown. (
+            gives-up who i c put (sees_gone put k) (Free Idle) (sees-knows c put k knows) at.out at.wants
+                (inl (gone-by answer (named_by put) old k refl told shown)) (λ b free. free),
+            tt,
+          ))
           (λ left. checking-on_by (check_behind call answer) put tries old k refl knows at))
 
       -- ---- what is owed

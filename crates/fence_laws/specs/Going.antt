@@ -67,6 +67,7 @@ holder = record {
         seen = Some (held 2 1);
         asked = record { at = 1; named = [] };
         owed = [];
+        gone = [];
       };
   stage = stages.Free Idle;
 }

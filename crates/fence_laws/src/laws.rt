@@ -1,5 +1,6 @@
 //! What holds of every fence.
 ghost use Rattle.fence_laws.specs.Going.{FencesGoOn, PutsGoOn};
+ghost use Rattle.fence_laws.specs.HeldBack.{GoneAreHeldBack};
 ghost use Rattle.fence_laws.specs.Runs.{FenceFollows, FencesAreSafe};
 
 /// Wherever a fence stands for a bridge of a cluster, and what it is told is so, all that it does
@@ -21,4 +22,10 @@ pub fn fences_are_safe()
 pub fn fences_go_on()
     ensures takes { FencesGoOn }
     ensures puts { PutsGoOn }
+{}
+
+/// Once a put was seen to be gone, of which its program hears `unknown`, each put of its service at
+/// its version or before is answered `stale` at once, wherever one may come, and nothing is sent.
+pub fn gone_puts_are_held_back()
+    ensures { GoneAreHeldBack }
 {}

@@ -3,4 +3,4 @@
 
 mod laws;
 
-pub use laws::{fence_follows, fences_are_safe, fences_go_on};
+pub use laws::{fence_follows, fences_are_safe, fences_go_on, gone_puts_are_held_back};

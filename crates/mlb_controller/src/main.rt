@@ -2,6 +2,7 @@
 #![tactic(auto)]
 
 use controller_run::run_controller;
+use fenced_run::{asks_for_fence, run_fenced};
 use program_exit::{exit_code, given_by};
 use std::process::ExitCode;
 
@@ -11,14 +12,18 @@ fn main(rt: HostRuntime) -> ExitCode {
         Err(status) => return exit_code(&rt, &status),
     };
     let given = &mut owned;
-    let status = run_controller(
-        &rt,
-        rt.alloc(),
-        &given.words,
-        &mut given.files,
-        &mut given.input,
-        &mut given.out,
-    );
+    let status = if asks_for_fence(&given.words) {
+        run_fenced(rt.alloc(), &given.words, &mut given.input, &mut given.out)
+    } else {
+        run_controller(
+            &rt,
+            rt.alloc(),
+            &given.words,
+            &mut given.files,
+            &mut given.input,
+            &mut given.out,
+        )
+    };
     let code = exit_code(&rt, &status);
     drop(status);
     drop(owned);

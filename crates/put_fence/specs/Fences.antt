@@ -2,8 +2,10 @@
 use Rattle.std.specs.Prelude.{◌==◌, ◌&&◌, ◌||◌, ◌+◌, ◌++◌, ℕ, Bool, true, false, if◌then◌else◌}
 use Rattle.std.specs.Prelude.{List, [], ◌∷◌, Option, Some, None, length, nat_le, nat_lt, slice_get}
 use Rattle.std.specs.List.{list_any}
+use Rattle.std.specs.BTreeMap.{is_at}
+use Rattle.std.specs.Map.{remove_entry}
 use Rattle.std.specs.Str.{bytes_eq}
-use Rattle.kube_model.specs.Keys.{same_key}
+use Rattle.kube_model.specs.Keys.{key_cmp, same_key}
 use Rattle.kube_model.specs.declared.put.Put.{Put}
 use Rattle.kube_model.specs.declared.reply.PutReply.TheVariants as replies
 use Rattle.put_fence.specs.declared.answer.Answer.{Answer}
@@ -27,6 +29,7 @@ use Rattle.put_fence.specs.declared.stage.Stage.{Stage}
 use Rattle.put_fence.specs.declared.stage.Stage.TheVariants.{Waiting, Fencing, Listing, Free}
 use Rattle.put_fence.specs.declared.stage.Stage.TheVariants.{Naming, Sent, Checking, Lost}
 use Rattle.put_fence.specs.declared.stage.Stage.TheVariants.{Chasing, Relisting}
+use Rattle.versioned_map.specs.Objects.{shown, version_at}
 
 -- ---- what it knows
 
@@ -64,6 +67,22 @@ is_owed put k = list_any (is_of put) k.owed
 -- as many as may be are owed
 abbrev pub is_full : Known → Bool
 is_full k = nat_le 1000 (length k.owed)
+
+-- No put of its service at its version can be carried out any more. Versions are from 1.
+abbrev pub is_gone : Put → Known → Bool
+is_gone put k = nat_le put.version (version_at key_cmp k.gone put.key)
+
+-- nor can one at this put's version, or before
+abbrev pub sees_gone : Put → Known → Known
+sees_gone put k = record k { gone = shown key_cmp k.gone put.key put.version tt }
+
+-- the put was stored: nothing is held against its service
+abbrev pub forgets : Put → Known → Known
+forgets put k = record k { gone = remove_entry (is_at (key_cmp put.key)) k.gone }
+
+-- nothing is sent of it
+abbrev pub is_held_back : Put → Known → Bool
+is_held_back put k = (is_owed put k || is_full k) || is_gone put k
 
 -- what is owed, and this put
 abbrev pub owed_and : Put → Known → List ServiceVersion
@@ -192,14 +211,15 @@ wanted_free Idle put k = wanted_by k.seen put k
 wanted_free Read put k = to (Naming put Read) outputs.Nothing k
 wanted_free Change put k = to (Naming put Change) outputs.Nothing k
 
--- Of a service of which a put is owed none is sent, and none at all where as many as may be are
--- owed: `stale`. One that comes while a put that is owed is fenced awaits the answer.
+-- Of a service of which a put is owed none is sent, none at a version at which one was seen to be
+-- gone, or before, and none at all where as many as may be are owed: `stale`. One that comes while
+-- a put that is owed is fenced awaits the answer.
 abbrev pub wanted : Stage → Put → Known → Taken
 wanted (Free call) put k =
-    if is_owed put k || is_full k then to (Free call) (outputs.Reply replies.Stale) k
+    if is_held_back put k then to (Free call) (outputs.Reply replies.Stale) k
     else wanted_free call put k
 wanted (Chasing call None) put k =
-    if is_owed put k || is_full k then to (Chasing call None) (outputs.Reply replies.Stale) k
+    if is_held_back put k then to (Chasing call None) (outputs.Reply replies.Stale) k
     else to (Chasing call (Some put)) outputs.Nothing k
 wanted stage put k = unexpected stage k
 
@@ -214,9 +234,10 @@ abbrev pub chased : Stage → Known → Taken
 chased (Free Idle) k = chased_by k.owed k
 chased stage k = to stage outputs.Nothing k
 
--- the services are listed anew where nothing is owed
+-- The services are listed anew where nothing is owed. What was gone isn't kept: each service is
+-- given anew, at a version that it has.
 abbrev pub relisted_by : List ServiceVersion → Known → Taken
-relisted_by [] k = to Relisting (outputs.Ask requests.List) k
+relisted_by [] k = to Relisting (outputs.Ask requests.List) (record k { gone = [] })
 relisted_by (n ∷ more) k = to (Free Idle) outputs.Nothing k
 
 abbrev pub relisted : Stage → Known → Taken
@@ -322,7 +343,8 @@ relisting_told answers.Unknown k = to Relisting (outputs.Again requests.List) k
 -- `ok` where the put was answered with success; else it is fenced
 abbrev pub sent_told : Put → Answer → Known → Taken
 sent_told put (answers.Lease lease) k = unexpected (Sent put) k
-sent_told put (answers.At version) k = to (Free Idle) (outputs.Reply (replies.Ok version)) k
+sent_told put (answers.At version) k =
+    to (Free Idle) (outputs.Reply (replies.Ok version)) (forgets put k)
 sent_told put answers.Listed k = unexpected (Sent put) k
 sent_told put answers.Missing k = to (Checking put checks.Get 0) (outputs.Ask requests.Get) k
 sent_told put answers.Refused k = to (Checking put checks.Get 0) (outputs.Ask requests.Get) k
@@ -337,11 +359,12 @@ checking_on checks.Get put tries k =
     if nat_lt tries 2 then to (Checking put checks.Get (tries + 1)) (outputs.Ask requests.Get) k
     else to (Free Idle) (outputs.Reply replies.Unknown) (owes put k)
 
--- `unknown` once the put can't be carried out any more
+-- `unknown` once the put can't be carried out any more, which is kept
 abbrev pub checking_told : Put → CheckCall → ℕ → Answer → Known → Taken
 checking_told put call tries answer k =
     if is_other answer then unexpected (Checking put call tries) k
-    else (if shows_gone put.version answer then to (Free Idle) (outputs.Reply replies.Unknown) k
+    else (if shows_gone put.version answer
+    then to (Free Idle) (outputs.Reply replies.Unknown) (sees_gone put k)
     else checking_on (check_behind call answer) put tries k)
 
 -- then the put that was awaited is looked at, where there is one
@@ -390,7 +413,13 @@ answered Lost answer k = unexpected Lost k
 abbrev pub started : List ℕ → Taken
 started name =
     to (Waiting Read) (outputs.Ask requests.ReadLease)
-    (record { name = name; seen = None; asked = record { at = 0; named = [] }; owed = [] })
+    (record {
+      name = name;
+      seen = None;
+      asked = record { at = 0; named = [] };
+      owed = [];
+      gone = [];
+    })
 
 abbrev pub taken : Input → Fence → Taken
 taken inputs.Tick f = ticked f.stage f.known

@@ -230,12 +230,12 @@ pub(crate) fn sent_told(put: Put, answer: Answer, known: Known) -> Taken
     ensures { result ≡ sent_told put answer known }
 {
     match answer {
-        Answer::At { version } => known.to(
-            free(LeaseCall::Idle),
-            Output::Reply {
-                reply: PutReply::Ok { version },
-            },
-        ),
+        Answer::At { version } => {
+            let reply = PutReply::Ok { version };
+            known
+                .forgets(&put)
+                .to(free(LeaseCall::Idle), Output::Reply { reply })
+        }
         Answer::Missing | Answer::Refused | Answer::Unknown => checks(put, known),
         Answer::Lease { .. } | Answer::Listed => {
             known.to(Stage::Sent { put }, Output::Unexpected)
@@ -276,7 +276,11 @@ pub(crate) fn checking_told(
     }
     if shows_gone(put.version, &answer) {
         let reply = PutReply::Unknown;
-        return Ok(known.to(free(LeaseCall::Idle), Output::Reply { reply }));
+        return Ok(
+            known
+                .sees_gone(put)?
+                .to(free(LeaseCall::Idle), Output::Reply { reply }),
+        );
     }
     checking_on(check_behind(call, &answer), put, tries, known)
 }

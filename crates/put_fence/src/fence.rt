@@ -40,7 +40,7 @@ impl Fence {
 
     /// The bridge after it was told this, and what is to be done. Where there is no memory, it is
     /// gone.
-    pub fn take(self, _alloc: Global, input: Input) -> Result<Taken, NoMemory>
+    pub fn take(self, alloc: Global, input: Input) -> Result<Taken, NoMemory>
         ensures { IfOk result (λ t. t ≡ taken input self) }
     {
         let Fence { known, stage } = self;
@@ -49,7 +49,7 @@ impl Fence {
             Input::Renew => renewed(stage, known),
             Input::Lapsed { version } => lapsed(stage, version, known),
             Input::Chase => Ok(chased(stage, known)),
-            Input::Relist => Ok(relisted(stage, known)),
+            Input::Relist => Ok(relisted(alloc, stage, known)),
             Input::Put { put } => wanted(stage, put, known),
             Input::Answer { answer } => answered(stage, answer, known),
         }
@@ -208,13 +208,13 @@ fn chased(stage: Stage, known: Known) -> Taken
 }
 
 /// The services are listed anew, where nothing is owed and nothing else is under way.
-fn relisted(stage: Stage, known: Known) -> Taken
+fn relisted(alloc: Global, stage: Stage, known: Known) -> Taken
     ensures { result ≡ relisted stage known }
 {
     match stage {
         Stage::Free {
             call: LeaseCall::Idle,
-        } => known.relisted(),
+        } => known.relisted(alloc),
         stage => known.to(stage, Output::Nothing),
     }
 }

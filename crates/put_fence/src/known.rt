@@ -1,19 +1,20 @@
 //! What a bridge knows of the Lease.
-ghost use Rattle.std.specs.Prelude.{◌≡◌, ◌||◌, [], None, IfOk, slice_get};
+ghost use Rattle.std.specs.Prelude.{◌≡◌, [], None, IfOk, slice_get};
 ghost use Rattle.std.specs.Option.{option_copied};
 ghost use Rattle.put_fence.specs.Fences.{asking, but_first, chased_by, fencing, first_last};
-ghost use Rattle.put_fence.specs.Fences.{is_full, is_named, is_owed, is_own, is_quiet, may_send};
-ghost use Rattle.put_fence.specs.Fences.{named_in, owed_and, owes, reads, relisted_by, sending_by};
-ghost use Rattle.put_fence.specs.Fences.{to};
+ghost use Rattle.put_fence.specs.Fences.{forgets, is_gone, is_held_back, is_named, is_owed, is_own};
+ghost use Rattle.put_fence.specs.Fences.{is_quiet, may_send, named_in, owed_and, owes, reads};
+ghost use Rattle.put_fence.specs.Fences.{relisted_by, sees_gone, sending_by, to};
 
 use crate::fence::Fence;
 use crate::lease::{Asked, Lease, ServiceVersion, ServiceVersions};
 use crate::output::{Output, Request, Taken};
 use crate::stage::{CheckCall, LeaseCall, Stage};
 use kube_labels::Text;
-use kube_model::Put;
+use kube_model::{Key, Put};
 use mlb_base::{NoMemory, Sequence, TryCopy};
 use std::alloc::Global;
+use versioned_map::VersionedMap;
 
 /// What a bridge knows of the Lease, whatever its stage.
 #[derive(Drop)]
@@ -27,6 +28,10 @@ pub struct Known {
     /// The puts that were answered `unknown` and may still be carried out, one of a service at
     /// most: each is named in every request for the Lease until it is seen to be gone.
     pub owed: ServiceVersions,
+    /// Each service of which a put was seen to be gone, at the last such put's version: none at it
+    /// or before is sent. It is forgotten once a later one is stored, and where the services are
+    /// listed anew.
+    pub gone: VersionedMap<Key, ()>,
 }
 
 /// So many puts are owed at most.
@@ -39,6 +44,7 @@ impl Known {
         ensures at { result.asked.at ≡ 0 }
         ensures named { result.asked.named ≡ [] }
         ensures owed { result.owed ≡ [] }
+        ensures gone { result.gone ≡ [] }
     {
         Known {
             name,
@@ -48,6 +54,7 @@ impl Known {
                 named: Sequence::new(alloc),
             },
             owed: Sequence::new(alloc),
+            gone: VersionedMap::new(alloc),
         }
     }
 
@@ -163,11 +170,35 @@ impl Known {
         Ok(Known { owed, ..self })
     }
 
-    /// Whether no put of the service is sent: one of it is owed, or as many as may be are.
+    /// Whether the put isn't sent: one of its service is owed, or as many as may be are, or it is
+    /// known to be gone.
     pub(crate) fn holds_back(&self, put: &Put) -> bool
-        ensures { result ≡ (is_owed put.now self.now || is_full self.now) }
+        ensures { result ≡ is_held_back put.now self.now }
     {
-        self.is_owed(put) || MOST_OWED <= self.owed.len()
+        self.is_owed(put) || MOST_OWED <= self.owed.len() || self.is_gone(put)
+    }
+
+    fn is_gone(&self, put: &Put) -> bool
+        ensures { result ≡ is_gone put.now self.now }
+    {
+        put.version <= self.gone.version_of(&put.key)
+    }
+
+    /// The put can't be carried out any more.
+    pub(crate) fn sees_gone(mut self, put: Put) -> Result<Known, NoMemory>
+        ensures { IfOk result (λ known. known ≡ sees_gone put self) }
+    {
+        let Put { key, version, .. } = put;
+        let _shown = self.gone.show(key, version, ())?;
+        Ok(self)
+    }
+
+    /// The put was stored.
+    pub(crate) fn forgets(mut self, put: &Put) -> Known
+        ensures { result ≡ forgets put.now self }
+    {
+        let _before = self.gone.remove(&put.key);
+        self
     }
 
     fn is_owed(&self, put: &Put) -> bool
@@ -213,15 +244,16 @@ impl Known {
     }
 
     /// Lists the services anew, where nothing is owed.
-    pub(crate) fn relisted(self) -> Taken
+    pub(crate) fn relisted(self, alloc: Global) -> Taken
         ensures { result ≡ relisted_by self.owed self }
     {
         let call = LeaseCall::Idle;
         if !self.owed.is_empty() {
             return self.to(Stage::Free { call }, Output::Nothing);
         }
+        let gone = VersionedMap::new(alloc);
         let request = Request::List;
-        self.to(Stage::Relisting, Output::Ask { request })
+        Known { gone, ..self }.to(Stage::Relisting, Output::Ask { request })
     }
 }
 

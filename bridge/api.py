@@ -222,6 +222,9 @@ class Api:
             is_whole = keeps and goes_on(headers)
         except Broken as fault:
             self.reach.lost(str(fault))
+            if isinstance(fault.__cause__, ConnectionError):  # it is over, and this was told of it
+                with contextlib.suppress(OSError):
+                    await writer.wait_closed()
             raise
         finally:
             if is_whole and len(self.kept) < KEPT:

@@ -12,6 +12,7 @@ VERSION = 1
 DOWN_BY_ADMIN, DOWN, INIT, UP = range(4)  # states
 POLL, FINAL, MULTIPOINT, SIGNED = 0x20, 0x10, 0x01, 0x04  # flags
 NONE, EXPIRED, SIGNALED, BY_ADMIN = 0, 1, 3, 7  # diagnostics
+LATE = 0.05  # seconds by which whoever runs looks late at most
 SLOW = 1_000_000  # microseconds between packets, at least, while the session isn't up
 ONE_HOP_TTL, FAR_TTL = 255, 1  # the least of a neighbor's packets (RFC 5881; over routers: any)
 
@@ -74,7 +75,9 @@ class Machine:
     why: int = NONE  # diagnostic
     polls: bool = False  # whether new times await the neighbor's word
     heard: Heard | None = None
+    detection: float = 0.0  # seconds without a packet after which the path isn't there
     expires: float | None = None  # when a packet must have come
+    spared: float = 0.0  # seconds that were added since the last packet
     is_faulty: bool = False  # whether the path was up, and was found not to be there
     steps: int = field(default=0)  # how often the state changed
 
@@ -117,16 +120,24 @@ class Machine:
             self.become(UP, NONE)
         elif self.state == INIT and heard.state in (INIT, UP):
             self.become(UP, NONE)
-        detection = heard.multiplier * max(self.profile.receive, heard.transmit) / 1e6
-        self.expires = now + detection
+        self.detection = heard.multiplier * max(self.profile.receive, heard.transmit) / 1e6
+        self.expires, self.spared = now + self.detection, 0.0
         return bool(heard.flags & POLL)
 
     def expire(self, now: float) -> None:
         """Nothing came in time (RFC 5880, section 6.8.4). A neighbor that asked for no packets is
-        told again."""
-        if self.expires is not None and now >= self.expires:
-            self.expires, self.heard = None, None
-            self.become(DOWN, EXPIRED)
+        told again. Who looks late didn't run meanwhile, and what it didn't run counts for nobody's
+        absence: the neighbor has that much longer, but in all no more than twice its time, so that
+        one that is gone is found by who is always late."""
+        if self.expires is None or now < self.expires:
+            return
+        late, rest = now - self.expires, self.detection - self.spared
+        if late > LATE and rest > 0:
+            more = min(late, rest)
+            self.expires, self.spared = now + more, self.spared + more
+            return
+        self.expires, self.heard = None, None
+        self.become(DOWN, EXPIRED)
 
     def end(self) -> bool:
         """The session ends by order, and whether the neighbor is to be told."""

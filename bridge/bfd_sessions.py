@@ -47,6 +47,10 @@ class BfdPorts:
         asyncio.get_running_loop().add_reader(made, self.hear, made, port)
         return made
 
+    def hear_all(self) -> None:
+        for (_, port), made in self.sockets.items():
+            self.hear(made, port)
+
     def hear(self, made: socket.socket, port: int) -> None:
         with contextlib.suppress(BlockingIOError):
             while True:
@@ -164,16 +168,24 @@ class BfdSession:
         if self.machine.take(heard, loop.time()):
             self.send(FINAL)
         self.settle(before)
+        self.await_next()
+
+    def await_next(self) -> None:
+        """Looks again when a packet must have come."""
         if self.ends:
             self.ends.cancel()
+        self.ends = None
         if self.machine.expires is not None:
-            self.ends = loop.call_at(self.machine.expires, self.expire)
+            self.ends = asyncio.get_running_loop().call_at(self.machine.expires, self.expire)
 
     def expire(self) -> None:
         """Where this program itself didn't run, what came meanwhile is read first."""
-        before, self.ends = self.machine.steps, None
-        self.machine.expire(asyncio.get_running_loop().time() + 0.001)
+        now = asyncio.get_running_loop().time()
+        self.ports.hear_all()
+        before = self.machine.steps
+        self.machine.expire(now + 0.001)
         self.settle(before)
+        self.await_next()
 
     def settle(self, before: int) -> None:
         """Does what follows from a change of the state since it had changed so often."""

@@ -9,6 +9,10 @@ from api import Api
 LOG = logging.getLogger("bridge")
 
 
+class Lost(Exception):
+    """Another one has the controller's Lease, or it is gone."""
+
+
 class Stop(Exception):
     """The bridge is to end, with this status."""
 

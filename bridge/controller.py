@@ -1,25 +1,29 @@
-"""The controller's bridge: events by two lanes, and each put is one request."""
+"""The controller's bridge: the program behind its fence, its requests, and what it is shown."""
 import argparse
 import asyncio
 import contextlib
 from collections.abc import Iterator
 
-from ahead import Ahead
 from api import Api, Json
-from common import api_of, tell, together, warn
+from carrier import Carrier, Told
+from common import Lost, api_of, tell, together, warn
 from events import Events
-from fences import Fences
+from fenced import Fenced
 from figures import Figures, figures_served
 from guard import PoolGuard
-from host import node_name
+from host import fresh, node_name
+from lanes import Trace
+from owed import Owed
 from programs import IDLE_RUNS, PAUSE, Ended, Program, started
-from puts import Counts, Puts
-from reading import reading
+from puts import Counts
+from reading import Reader, reading
 from refusals import Refusals
-from turns import Lease, Lost, Turn, Turns
-from watches import ANEW, SERVICE_PATHS, FaultOf, Watches, config_paths
+from services import Name
+from taking import Taking
+from watches import ANEW, SERVICE_PATHS, Watches, config_paths
 
 COMPONENT = "sutchebam-controller"
+LAST_WAIT = 5.0  # seconds in which the Lease is given up at the end
 
 
 def has_addresses(event: Json) -> bool:
@@ -27,122 +31,145 @@ def has_addresses(event: Json) -> bool:
     return bool((status.get("loadBalancer") or {}).get("ingress"))
 
 
+class Lane:
+    """The watched lines on their way to the program, each until all is done that comes of it."""
+    name = "watch"
+
+    def __init__(self, fenced: Fenced, trace: Trace) -> None:
+        self.fenced, self.trace, self.given = fenced, trace, 0
+
+    async def give(self, line: bytes) -> int:
+        self.given += 1
+        number = self.given
+        self.trace(f"{self.name} {number}", line)
+        await self.fenced.show(line)
+        self.trace("took", f"{self.name} {number}\n".encode())
+        return number
+
+    async def until_taken(self, _number: int) -> None:
+        """It was taken when it was given."""
+
+
+class Run:
+    """One run of the program, under a name of its own."""
+
+    def __init__(self, options: argparse.Namespace, program: Program, carrier: Carrier,
+                 events: Events, figures: Figures, told: dict[Name, float]) -> None:
+        self.options, self.program, self.carrier = options, program, carrier
+        self.events, self.figures = events, figures
+        self.owed = Owed(told)
+        self.fenced = Fenced(program, carrier, self.owed, self.hear)
+
+    async def serve(self, taking: Taking, reader: Reader) -> None:
+        """Takes the Lease, and serves until the program ends or the Lease is lost."""
+        await taking.run()
+        self.figures.begin(self.program, self.carrier.refusals, self.owed)
+        await together(self.fenced.keep(), self.fenced.renew(), self.fenced.chase(),
+                       self.carrier.refusals.keep(), self.until_all_fenced(), self.give(reader))
+
+    async def give(self, reader: Reader) -> None:
+        """Gives the program what is watched."""
+        async def fault_of(event: Json, line: bytes) -> str | None:
+            """A service that has addresses is shown in any case: were it kept back, another one
+            could be given them. So one that can't be read stops the controller."""
+            return None if has_addresses(event) else await reader.fault_of(event, line)
+
+        def note(_number: int, event: Json) -> None:
+            if event == ANEW:
+                self.figures.anew()
+                guard.begin_services()
+            self.figures.note(event)
+            self.events.note(event)
+            self.carrier.refusals.note(event)
+            guard.note(event)
+
+        options = self.options
+        guard = PoolGuard(options.namespace, options.lb_class, options.without_pools,
+                          asyncio.Event(), self.carrier.giving)
+        paths = config_paths(options.namespace) | SERVICE_PATHS
+        watches = Watches(self.carrier.api, Lane(self.fenced, options.trace), paths, fault_of,
+                          self.fenced, note, guard)
+        guard.listed = watches.lists["Service"]
+        await watches.keep()
+
+    async def until_all_fenced(self) -> None:
+        """`Ended`: as many puts were owed as may be, so that others weren't sent, and none is any
+        more: the services are to be shown anew."""
+        while not self.owed.was_full or self.owed.puts:
+            await asyncio.sleep(PAUSE)
+        raise Ended()
+
+    def hear(self, line: Json) -> None:
+        """Takes note of a line that is no request."""
+        match line["op"]:
+            case "pending":
+                tell(f"{line['namespace']}/{line['name']} waits: {line['reason']}")
+                self.events.pending(line)
+            case "config":
+                self.figures.configured(line)
+                if line["result"] == "refused":
+                    warn(f"configuration refused: {line['fault']} of {line['kind']} {line['name']}")
+
+
 class Controller:
-    """One bridge: takes the Lease for one start of its program after the other."""
+    """One bridge: runs its program again and again."""
 
     def __init__(self, options: argparse.Namespace) -> None:
         self.options = options
         self.api: Api = api_of(options, "bridge-controller")
-        self.lease = Lease(self.api, options.namespace, options.lease_seconds)
-        self.turns = Turns(self.lease, node_name())
-        self.fences, self.events = Fences(self.api), Events(self.api, COMPONENT)
+        self.events = Events(self.api, COMPONENT)
         self.counts, self.figures = Counts(), Figures()
+        self.told: tuple[Told, dict[Name, float]] = Told(), {}
+        self.before: str | None = None  # the last name under which it had the Lease
 
     async def serve(self) -> None:
-        """Serves until it is cancelled, whenever the Lease is this bridge's."""
+        """Serves until it is cancelled."""
         async with figures_served(self.options.figures, self.lines):
-            await together(self.serve_turns(), self.events.keep(), self.fences.keep())
+            await together(self.serve_runs(), self.events.keep())
 
-    async def serve_turns(self) -> None:
+    async def serve_runs(self) -> None:
         idle = 0
         while True:
-            turn = await self.turns.take()
-            tell(f"{turn.holder} is the controller")
-            self.figures.is_holder, self.figures.program = True, None
+            self.figures.begin_run()
             try:
                 with contextlib.suppress(Ended):
-                    refusals = Refusals(self.fences, self.options.refused_pause)
-                    await together(turn.keep(), refusals.keep(), self.serve_turn(turn, refusals))
+                    await self.run(f"{node_name()}_{fresh()}")
             except Lost as lost:
                 tell(lost)
-            except asyncio.CancelledError:
-                await turn.release()
-                raise
-            finally:
-                self.figures.is_holder = False
             idle = 0 if self.figures.took() else idle + 1
             if idle >= IDLE_RUNS:
                 await asyncio.sleep(PAUSE)
 
-    async def serve_turn(self, turn: Turn, refusals: Refusals) -> None:
-        """Fences what the Lease names, and then runs the program once, which is shown the services
-        as they are from then on. `Ended`: it has ended."""
-        if turn.seen.names:
-            tell(f"puts that may be on their way: {', '.join(map(str, turn.seen.names))}")
-        await self.fences.until_fenced(turn.seen.names)
-        ahead = Ahead(self.options.lb_class, refusals)
-        puts = Puts(self.api, turn, self.fences, refusals, ahead, self.events, self.counts)
-        self.figures.refusals = refusals
-        command = [self.options.program]
-        if self.options.lb_class:
-            command.append(f"--lb-class={self.options.lb_class}")
-        async with reading(self.options.admit) as reader, \
-                started(command, ["config", "service"], self.options) as program:
-            self.figures.begin(program)
-
-            async def fault_of(event: Json, line: bytes) -> str | None:
-                """A service that has addresses is shown in any case: were it kept back, another
-                one could be given them. So one that can't be read stops the controller."""
-                return None if has_addresses(event) else await reader.fault_of(event, line)
-
-            with contextlib.suppress(ConnectionError):
-                await together(program.until_ended(), self.hear(program, puts),
-                               self.give(program, puts, refusals, fault_of))
+    async def run(self, name: str) -> None:
+        """Runs the program once, under this name, which nobody had before. `Ended`: it ended."""
+        options = self.options
+        refusals = Refusals(self.api, options.refused_pause)
+        carrier = Carrier(self.api, options.namespace, options.lease_seconds, refusals, self.events,
+                          self.counts, self.told[0])
+        command = [options.program, "--fence", name]
+        command += ["--lb-class", options.lb_class] if options.lb_class else []
+        try:
+            async with reading(options.admit) as reader, \
+                    started(command, [], options) as program:
+                run = Run(options, program, carrier, self.events, self.figures, self.told[1])
+                taking = Taking(program, name, self.before, carrier, run.owed, self.held)
+                with contextlib.suppress(ConnectionError):
+                    await together(program.until_ended(), run.serve(taking, reader))
+        except asyncio.CancelledError:
+            if self.before == name:
+                with contextlib.suppress(TimeoutError):
+                    async with asyncio.timeout(LAST_WAIT):
+                        await carrier.release(name)
+            raise
         raise Ended()
 
-    async def give(self, program: Program, puts: Puts, refusals: Refusals,
-                   fault_of: FaultOf) -> None:
-        """Gives the program what is watched."""
-        await program.open()
-        options = self.options
-
-        def note_service(_number: int, event: Json) -> None:
-            if event == ANEW:
-                self.figures.anew("service")
-                guard.begin_services()
-            self.figures.note(event)
-            self.events.note(event)
-            self.fences.note(event)
-            refusals.note(event)
-            puts.ahead.note(event)
-            guard.note(event)
-
-        def note_config(_number: int, event: Json) -> None:
-            if event == ANEW:
-                self.figures.anew("config")
-            self.figures.note(event)
-
-        services = Watches(self.api, program.lanes["service"], SERVICE_PATHS, fault_of,
-                           puts.until_quiet, note_service)
-        guard = PoolGuard(options.namespace, options.lb_class, options.without_pools,
-                          services.lists["Service"], puts.giving)
-        config = Watches(self.api, program.lanes["config"], config_paths(options.namespace),
-                         fault_of, None, note_config, guard)
-        await together(config.keep(), services.keep())
-
-    async def hear(self, program: Program, puts: Puts) -> None:
-        """Does what the program's lines ask for. The reply to a put is given before the next line
-        is read."""
-        async for line in program.written():
-            match line["op"]:
-                case "put":
-                    program.waits_for_reply = True
-                    await program.reply(await puts.reply(line))
-                    program.waits_for_reply = False
-                case "pending":
-                    tell(f"{line['namespace']}/{line['name']} waits: {line['reason']}")
-                    self.events.pending(line)
-                    puts.ahead.done((line["namespace"], line["name"]))
-                case "config":
-                    self.figures.configured(line)
-                    if line["result"] == "refused":
-                        warn(f"configuration refused: {line['fault']} of {line['kind']} "
-                             f"{line['name']}")
-        await asyncio.Future()
+    def held(self, name: str) -> None:
+        """The program of this name has the Lease."""
+        self.before, self.figures.is_holder = name, True
 
     def lines(self) -> Iterator[str]:
         """What /metrics tells."""
-        yield from self.figures.lines(self.counts, len(self.fences.owed))
+        yield from self.figures.lines(self.counts)
 
 
 async def serve(options: argparse.Namespace) -> None:

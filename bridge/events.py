@@ -11,8 +11,8 @@ import json
 import logging
 
 from api import Api, Broken, Json, NotSent
-from fences import PATCH
 from host import now
+from services import PATCH
 
 LOG = logging.getLogger("bridge")
 MANY, SHORT, SAME = 500, 5.0, 60.0  # events that wait; seconds for an answer, and without the same

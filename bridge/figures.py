@@ -8,6 +8,7 @@ from typing import Any
 
 from api import Json
 from guard import POOL
+from owed import Owed
 from programs import Program
 from puts import FROM_POOL, Counts
 from refusals import Refusals
@@ -49,26 +50,29 @@ class Figures:
     def __init__(self) -> None:
         self.program: Program | None = None
         self.refusals: Refusals | None = None
+        self.owed: Owed | None = None
         self.is_holder = False
-        self.loaded = self.stale = self.updates = 0
+        self.loaded = self.stale = self.updates = self.before = 0
         self.pools: dict[str, int] = {}
         self.held: dict[tuple[str, str], tuple[str, list[str]]] = {}
 
-    def begin(self, program: Program) -> None:
-        self.program = program
+    def begin_run(self) -> None:
+        """Another run of the program, which waits for the Lease."""
+        self.program, self.is_holder, self.before = None, False, self.updates
+
+    def begin(self, program: Program, refusals: Refusals, owed: Owed) -> None:
+        """The program has the Lease, and is to be shown the services."""
+        self.program, self.refusals, self.owed = program, refusals, owed
         self.loaded = self.stale = 0
         self.pools, self.held = {}, {}
 
-    def anew(self, lane: str) -> None:
-        """The lists of a lane begin anew."""
-        if lane == "config":
-            self.pools = {}
-        else:
-            self.held = {}
+    def anew(self) -> None:
+        """The lists begin anew."""
+        self.pools, self.held = {}, {}
 
     def took(self) -> bool:
-        """Whether the program took anything."""
-        return self.program is not None and any(lane.taken for lane in self.program.lanes.values())
+        """Whether the run of the program was shown anything."""
+        return self.updates > self.before
 
     def configured(self, line: Json) -> None:
         self.stale = int(line["result"] == "refused")
@@ -94,7 +98,7 @@ class Figures:
             if pool and ingress and not gone:
                 self.held[key] = pool, [one.get("ip") for one in ingress]
 
-    def lines(self, counts: Counts, owed: int) -> Iterator[str]:
+    def lines(self, counts: Counts) -> Iterator[str]:
         yield sample(LOADED, self.loaded)
         yield sample(STALE, self.stale)
         yield sample(UPDATES, self.updates)
@@ -108,7 +112,7 @@ class Figures:
         yield sample(PUTS, counts.stored, came="stored")
         yield sample(PUTS, counts.unknown, came="unknown")
         yield sample(PUTS, counts.unsent, came="unsent")
-        yield sample(OWED, owed)
+        yield sample(OWED, len(self.owed.puts) if self.owed else 0)
         yield sample(REFUSED, self.refusals.services() if self.refusals else 0)
         yield sample(HOLDER, int(self.is_holder))
         yield sample(UP, int(is_alive(self.program)))

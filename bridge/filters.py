@@ -9,10 +9,13 @@ from addresses import packed
 
 RANGES = 300  # of each family: six steps each, and a filter may have 4,096
 LOAD_WORD, LOAD_HALF, LOAD_OCTET = 0x20, 0x28, 0x30
-GO, EQUAL, ABOVE, NOT_BELOW = 0x05, 0x15, 0x25, 0x35
+GO, EQUAL, ABOVE, NOT_BELOW, AND = 0x05, 0x15, 0x25, 0x35, 0x54
 Step = tuple[int, int, int, int]  # code, steps to skip where it holds and where it doesn't, number
 KEPT, DROPPED = (0x06, 0, 0, 0xFFFF), (0x06, 0, 0, 0)
-PACKET_TYPE, VLAN_TAG = 0xFFFFF004, 0xFFFFF030  # what the kernel knows of a frame, by its places
+# What the kernel knows of a frame, by its places: whom it is to, the tag that was taken off, and
+# whether one was.
+PACKET_TYPE, VLAN_TAG, HAS_TAG = 0xFFFFF004, 0xFFFFF02C, 0xFFFFF030
+VLAN_NUMBER = 0xFFF  # of a tag; with 0 it tells a priority alone (IEEE 802.1Q, 9.6)
 
 
 def ranges_of(addresses: Iterable[str]) -> list[tuple[int, int]]:
@@ -45,7 +48,7 @@ def search(ranges: Sequence[tuple[int, int]]) -> list[Step]:
 
 
 def filter_for(addresses: Sequence[str]) -> list[Step]:
-    """Frames to this host, without a VLAN tag, that are ARP requests or neighbor solicitations for
+    """Frames to this host, of no VLAN, that are ARP requests or neighbor solicitations for
     one of the addresses, as far as their last four octets say."""
     narrow = [address for address in addresses if ":" not in address]
     wide = [address for address in addresses if ":" in address]
@@ -55,7 +58,10 @@ def filter_for(addresses: Sequence[str]) -> list[Step]:
         (LOAD_WORD, 0, 0, PACKET_TYPE),  # to this host, to all, or to a group: each less than 3
         (ABOVE, 0, 1, 2),
         DROPPED,
-        (LOAD_WORD, 0, 0, VLAN_TAG),  # whether one was taken off
+        (LOAD_WORD, 0, 0, HAS_TAG),
+        (EQUAL, 4, 0, 0),
+        (LOAD_WORD, 0, 0, VLAN_TAG),
+        (AND, 0, 0, VLAN_NUMBER),
         (EQUAL, 1, 0, 0),
         DROPPED,
         (LOAD_HALF, 0, 0, 12),  # EtherType

@@ -8,7 +8,7 @@ import math
 from typing import Any
 
 from api import Json
-from fences import Key, version_of
+from services import Key, version_of
 
 LOG = logging.getLogger("bridge")
 TOLD = 60.0  # seconds until it is told again

@@ -9,12 +9,13 @@ import logging
 import os
 import pathlib
 import socket
-from collections.abc import Awaitable, Callable, Iterator, Mapping
+from collections.abc import Awaitable, Callable, Iterable, Iterator, Mapping
 from typing import Any
 
 from api import Api, Broken, NotSent
-from beats import BOOT, LOST, MANY, Beats, Verdict
+from beats import LOST, MANY, PAUSE, SIDE, Beats, Verdict
 from common import together
+from datagrams import BOOT
 from figures import sample
 from kubelets import Kubelets
 from leases import MEMBERS, Give, LeaseMembers, names_of
@@ -23,11 +24,12 @@ from roster import Roster
 
 LOG = logging.getLogger("bridge")
 ASK_WAIT = 1.0  # seconds for an answer of the API server, and between two while no node is heard
-ASK_SELDOM = 5.0  # and while others are heard, and between two looks at kubelets' Leases
+ASK_SELDOM = 2.5  # and while others are heard, and between two looks at kubelets' Leases
 KEYS_PAUSE, UNSIGNED_TOLD = 1.0, 15.0  # seconds until keys are read again, and it is told again
 MOST, LONGEST = 1000, 2048  # datagrams that are read at once, and their octets
 STANDING, BEATS = "sutchebam_standing", "sutchebam_beats_total"
 BEATS_PAUSE = "sutchebam_beats_pause_seconds"
+KEPT = 1 << 22  # octets of datagrams that the kernel is asked to keep until they are read
 GOODBYES = 2  # datagrams to each node at the end, since one may be lost
 
 
@@ -62,6 +64,7 @@ class Port:
         self.socket = socket.socket(family, socket.SOCK_DGRAM)
         if self.is_wide:
             self.socket.setsockopt(socket.IPPROTO_IPV6, socket.IPV6_V6ONLY, 0)
+        self.socket.setsockopt(socket.SOL_SOCKET, socket.SO_RCVBUF, KEPT)
         self.socket.bind(("::" if self.is_wide else "", port))
         self.socket.setblocking(False)
 
@@ -105,15 +108,19 @@ class HeartbeatMembers:
         self.membership.roster.note(event)
 
     def beat(self) -> None:
-        """Tells each other node of this one."""
-        for address, octets in self.beats.beat(self.serves and self.is_well()):
+        """Tells other nodes of this one, as far as they are due."""
+        self.send(self.beats.beat(self.serves and self.is_well()))
+
+    def send(self, datagrams: Iterable[tuple[str, bytes]]) -> None:
+        for address, octets in datagrams:
             self.counts["sent" if self.port.send(address, octets) else "unsent"] += 1
 
     def hear(self) -> None:
-        """Takes the datagrams that came, but for a flood."""
+        """Takes the datagrams that came, but for a flood, and answers."""
         before = self.beats.changes
         for octets in self.port.received():
             self.counts[self.beats.take(octets).value] += 1
+        self.send(self.beats.answers())
         if self.beats.changes != before:
             self.changed.set()
 
@@ -136,7 +143,7 @@ class HeartbeatMembers:
 
     async def tick(self) -> None:
         """Lets time go by. That in which this program itself didn't run counts for nobody's
-        absence."""
+        absence, and what came meanwhile is read first."""
         loop = asyncio.get_running_loop()
         last, rest = loop.time(), 0.0
         while True:
@@ -144,10 +151,12 @@ class HeartbeatMembers:
             now = loop.time()
             passed, rest, last = min(now - last, 2 * TICK), rest - (now - last), now
             self.membership.look()
-            if rest <= 0:
+            if rest <= 0 or self.beats.has_news:
                 self.beat()
-                rest = self.beats.pause
+                rest = PAUSE
+            self.hear()
             self.beats.pass_time(passed)
+            self.send(self.beats.questions())
             self.tell_many()
             self.changed.set()
 
@@ -228,7 +237,7 @@ class HeartbeatMembers:
         """Waits until all others are heard, as long as it takes to know that one is gone."""
         self.membership.look()
         loop = asyncio.get_running_loop()
-        end = loop.time() + LOST * self.beats.pause
+        end = loop.time() + LOST * PAUSE
         while loop.time() < end and not self.membership.is_complete():
             await asyncio.sleep(TICK)
         if unheard := sorted(self.beats.others.keys() - self.beats.heard()):
@@ -240,12 +249,12 @@ class HeartbeatMembers:
         self.standing = standing
 
     def tell_many(self) -> None:
-        """Tells where there are so many speakers that each is told more seldom."""
+        """Tells where there are so many speakers that most are told more seldom."""
         count, was_many = len(self.beats.others), self.is_many
         self.is_many = count > MANY
         if self.is_many and not was_many:
-            seconds = LOST * self.beats.pause
-            LOG.warning("%d other speakers: one that ends is gone after %.1f s", count, seconds)
+            LOG.info("%d other speakers: %d are told each %.1f s, the others each %.1f s", count,
+                     2 * SIDE, PAUSE, self.beats.pause)
 
     def lines(self) -> Iterator[str]:
         """Figures: the members, how this node stands, and the datagrams."""

@@ -12,22 +12,22 @@ import pathlib
 import re
 import socket
 import struct
-from collections.abc import Collection, Iterator
+from collections.abc import Collection, Iterator, Sequence
 from typing import Protocol
 
 from addresses import solicited_node
 from common import Stop
 from filters import code_of, filter_for
+from interfaces import NETLINK_ROUTE, Shown, interfaces, wholes
 
 LOG = logging.getLogger("bridge")
 ATTACH_FILTER, ALL_PROTOCOLS = 26, 3
 LONGEST, SHORTEST = 65536, 60  # octets of a frame that is read, and of one that is sent
 MOST = 16  # interfaces of a program
-ETHERNET, IS_UP = 1, 1  # of an interface: ARPHRD_ETHER, IFF_UP
 # Interfaces that a cluster makes for its pods, or a host for its virtual machines.
 MADE = re.compile("cbr|cali|cilium|cni|docker|dummy|flannel|kube-|lxc|nodelocaldns|tunl|veth|virbr"
                   "|vxlan")
-NETLINK_ROUTE, GROUP_LINK = 0, 1  # rtnetlink: changes of interfaces
+GROUP_LINK = 1  # rtnetlink: changes of interfaces
 
 
 class AnyLink(Protocol):
@@ -190,25 +190,25 @@ class SocketLink:
                 os.unlink(path)
 
 
-def all_interfaces() -> Iterator[str]:
-    """The Ethernet interfaces that are up, but for those that are made for pods and machines, and
-    for those that are part of another one, as of a bond or a bridge."""
-    for _, name in socket.if_nameindex():
-        place = pathlib.Path("/sys/class/net") / name
-        with contextlib.suppress(OSError, ValueError):
-            kind, flags = int((place / "type").read_text()), int((place / "flags").read_text(), 16)
-            is_part = (place / "master").exists()
-            if kind == ETHERNET and flags & IS_UP and not is_part and not MADE.match(name):
-                yield name
+def listened_to(shown: Sequence[Shown]) -> Iterator[str]:
+    """What `auto` stands for: the Ethernet interfaces that are up, but for those that are made for
+    pods and machines, and for those that are part of another one, as of a bond or a bridge. A VLAN
+    is one beside the card or the bond that it is of."""
+    for one in shown:
+        if one.has_neighbors and not one.is_part and not MADE.match(one.name):
+            yield one.name
 
 
-def links_of(options: argparse.Namespace, held: Collection[str] = ()) -> dict[str, AnyLink]:
+def links_of(options: argparse.Namespace, held: Collection[str] = (),
+             shown: Sequence[Shown] | None = None) -> dict[str, AnyLink]:
     """The links that the words name, by their names, but for those that are held. `auto` stands for
     all interfaces, of which a program takes MOST."""
     folders = dict(word.split("=", 1) for word in options.link)
     is_auto = options.interface == ["auto"]
+    shown = interfaces() if shown is None else shown
+    words = list(listened_to(shown))[:MOST] if is_auto else options.interface
     links: dict[str, AnyLink] = {}
-    for word in list(all_interfaces())[:MOST] if is_auto else options.interface:
+    for word in words:
         name, _, hardware = word.partition("=")
         if name in held:
             continue
@@ -217,6 +217,8 @@ def links_of(options: argparse.Namespace, held: Collection[str] = ()) -> dict[st
                 links[name] = SocketLink(name, hardware, folders[name], options.node_name)
             else:
                 links[name] = Interface(name, hardware)
+                if whole := wholes(shown).get(name):
+                    LOG.warning("%s is part of %s: name that one", name, whole)
         except OSError as fault:
             if not is_auto:
                 raise Stop(2, f"no link {name}: {fault}") from fault
@@ -225,9 +227,15 @@ def links_of(options: argparse.Namespace, held: Collection[str] = ()) -> dict[st
 
 def look_at(links: dict[str, AnyLink], options: argparse.Namespace) -> Iterator[str]:
     """What is to be told where the links aren't what they were, and brings them to what they are
-    now. An interface that is gone or down stays, as it may be back."""
-    if options.interface == ["auto"] and len(links) < MOST:
-        more = dict(list(links_of(options, links).items())[:MOST - len(links)])
+    now. An interface that is gone or down stays, as it may be back; one that became part of another
+    one doesn't."""
+    if options.interface == ["auto"]:
+        shown = interfaces()
+        for part, whole in wholes(shown).items():
+            if part in links:
+                links.pop(part).close()
+                yield f"{part} is part of {whole} now"
+        more = dict(list(links_of(options, links, shown).items())[:MOST - len(links)])
         links |= more
         yield from (f"{name} is an interface now" for name in more)
     for name, link in links.items():

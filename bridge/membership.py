@@ -19,11 +19,12 @@ from roster import Roster
 TICK = 0.1  # seconds between two looks
 CUT_OFF = 5.0  # seconds without others and without API server
 # Seconds of being ready and unheard until a node counts for the others, and so many more until it
-# goes by that itself. A speaker that hangs isn't ready any more after three probes, each 10 s.
-SETTLE, MORE = 45.0, 15.0
+# goes by that itself. A speaker that hangs isn't ready any more after three probes, each 2 s.
+SETTLE, MORE = 15.0, 10.0
 # Seconds in which a kubelet that is alive is seen to renew its Lease, which it does each 10; and
 # those for which one that is looked at first may be alive.
-PULSE, DOUBT = 25.0, 15.0
+PULSE, DOUBT = 25.0, 16.0
+LATE = 5.0  # seconds by which a list of Leases may be late: what it shows before is no sign of life
 
 
 class Standing(enum.Enum):
@@ -45,6 +46,10 @@ class Pulse:
 
     def is_alive(self, now: float) -> bool:
         return self.changed is not None and now - self.changed <= PULSE
+
+    def outlives(self, silence: float) -> bool:
+        """Whether it was seen to be renewed since a silence that began then."""
+        return self.changed is not None and self.changed - silence >= LATE
 
     def may_be(self, now: float) -> bool:
         """Whether it is alive as far as is known."""
@@ -130,10 +135,12 @@ class Membership:
         and those with a Lease, but for one that was heard while it had that: it is gone."""
         now = self.answered
         settled = {name for name, since in self.unheard_since.items()
-                   if now - since >= SETTLE and self.pulses[name].is_alive(now)}
+                   if now - since >= SETTLE and self.pulses[name].is_alive(now)
+                   and self.pulses[name].outlives(since)}
         leased = {name for name, began in self.leased.items()
                   if self.heard_leased.get(name) != began}
-        return (settled | leased) - self.beats.heard() - {self.node}
+        named = settled | leased
+        return named - self.beats.heard() - {self.node} if named else named
 
     def standing(self) -> Standing:
         if self.beats.heard():

@@ -1,4 +1,4 @@
-"""A program over two lanes, from its start to its end, and anew."""
+"""A program over lanes, or over its standard input alone, from its start to its end, and anew."""
 import argparse
 import asyncio
 import contextlib
@@ -31,34 +31,49 @@ class Program:
         self.process, self.stdin, self.stdout = process, process.stdin, process.stdout
         self.lanes = {lane.name: lane for lane in lanes}
         self.trace, self.patience = options.trace, options.patience
-        self.waits_for_reply = False
 
     async def open(self) -> None:
         """Opens the lanes as the program does: the first one first."""
         for lane in self.lanes.values():
             await lane.open()
 
+    async def line(self) -> Json | None:
+        """The next line that the program writes, as a value, once it is whole; none at its end."""
+        line = await self.stdout.readline()
+        if not line.endswith(b"\n"):
+            return None
+        self.trace("written", line)
+        value: Json = json.loads(line)
+        return value
+
     async def written(self) -> AsyncGenerator[Json, None]:
-        """The lines that the program writes, as values, each once it is whole. What it has taken
-        of a lane is noted on the way."""
-        while (line := await self.stdout.readline()).endswith(b"\n"):
-            self.trace("written", line)
-            value: Json = json.loads(line)
+        """The lines that the program writes. What it has taken of a lane is noted on the way."""
+        while (value := await self.line()) is not None:
             if value["op"] == "took":
                 await self.lanes[value["lane"]].took(value["n"])
             yield value
 
-    async def reply(self, value: Json) -> None:
-        """Gives a reply by the standard input."""
-        line = json.dumps(value).encode() + b"\n"
-        self.trace("reply", line)
-        self.stdin.write(line)
-        await self.stdin.drain()
+    async def awaited(self) -> Json:
+        """The next line, of which it is known that it comes. `Ended`: it doesn't."""
+        value = None
+        with contextlib.suppress(TimeoutError):
+            async with asyncio.timeout(self.patience):
+                value = await self.line()
+        if value is None:
+            raise Ended()
+        return value
+
+    async def say(self, lines: bytes) -> None:
+        """Gives lines by the standard input."""
+        for line in lines.splitlines(keepends=True):
+            self.trace("given", line)
+        self.stdin.write(lines)
+        with contextlib.suppress(ConnectionError):  # its end is told by what it writes
+            await self.stdin.drain()
 
     async def until_ended(self) -> None:
         """A program that stopped inside tells of nothing more that it takes, and ends only once
         all is closed. So it is given up then."""
-        loop = asyncio.get_running_loop()
         while True:
             with contextlib.suppress(TimeoutError):
                 async with asyncio.timeout(LOOK):
@@ -66,16 +81,16 @@ class Program:
                         raise Stop(BAD_WORDS, "the program doesn't take its words")
                     raise Ended()
             for lane in self.lanes.values():
-                if self.waits_for_reply:
-                    lane.moved = loop.time()
-                elif lane.is_stuck(self.patience):
+                if lane.is_stuck(self.patience):
                     warn(f"nothing more is taken of the {lane.name} lane")
                     raise Ended()
                 lane.probe()
 
     async def close(self) -> None:
         """Closes the lanes and the input, and waits until the program has ended. What it writes
-        until then is passed over."""
+        until then is passed over. One that has ended before has done so by itself."""
+        if self.process.returncode is not None:
+            warn(f"program ended by itself: {self.process.returncode}")
         if not all(lane.writer for lane in self.lanes.values()):
             with contextlib.suppress(ProcessLookupError):
                 self.process.kill()
@@ -97,7 +112,7 @@ async def started(command: Sequence[str], names: Sequence[str],
                   options: argparse.Namespace) -> AsyncIterator[Program]:
     """The program over lanes of these names. Once this is left it has ended, and its pipes are
     gone."""
-    with folder() as path:
+    with folder() if names else contextlib.nullcontext("") as path:
         lanes = [Lane(name, path, options.trace) for name in names]
         words = [word for lane in lanes for word in (f"--{lane.name}-lane", lane.path)]
         pipe = asyncio.subprocess.PIPE

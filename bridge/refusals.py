@@ -3,19 +3,22 @@ down. So that all others go on, no put of such a service is sent for a while, an
 itself: its version is moved, which shows the service to the program once more. The pause grows with
 each refusal, and ends early where somebody else changes the service, who may have mended it.
 
-A webhook that is down takes up to half a minute for each put. So once it has refused a few puts of
-a namespace, all puts of that namespace wait, but for one now and then."""
+A webhook that is down takes long for each put. So once it has refused a few puts of a namespace,
+all puts of that namespace wait, but for one now and then. Nothing rests on these times."""
 import asyncio
+import contextlib
 import logging
 from dataclasses import dataclass
 
-from api import Json
-from fences import TOLD, Fences, Key, Name, version_of
+from api import Api, Broken, Json, NotSent
 from host import Pause
+from services import PATCH, Key, Name, is_missing, version_of
 
 LOG = logging.getLogger("bridge")
 LONGEST_TIMES = 150.0  # so many times as long as the first pause the longest one is
 FORGIVEN = 2  # refusals of a kind that may be gone at once, until there is a pause
+TOLD = 60.0  # seconds until it is told again
+SHORT = 5.0  # seconds for an answer
 
 
 @dataclass
@@ -34,8 +37,8 @@ def of_all(name: Name) -> Key:
 
 
 class Refusals:
-    def __init__(self, fences: Fences, first_pause: float) -> None:
-        self.fences, self.first_pause = fences, first_pause
+    def __init__(self, api: Api, first_pause: float) -> None:
+        self.api, self.first_pause = api, first_pause
         self.by_key: dict[Key, Refusal] = {}
         self.news = asyncio.Event()
 
@@ -115,10 +118,14 @@ class Refusals:
                 pass
 
     async def touch(self, one: Refusal) -> None:
-        """Moves the version of the service, unless it moved already: its put comes by itself."""
+        """Moves the version of the service, as anybody may."""
         name, one.waits = one.waits, None
-        if name is None or self.fences.is_past(name):
+        if name is None:
             return
-        tried = await self.fences.attempt(name)
-        if not tried.fenced:
-            one.until, one.waits = asyncio.get_running_loop().time() + one.pause.next(), name
+        with contextlib.suppress(NotSent, Broken):
+            status, found = await self.api.request("PATCH", name.path + "/status", name.touch(),
+                                                   PATCH, SHORT)
+            if is_missing(status, found) or status == 200 and version_of(found) > name.version:
+                return
+        one.until = asyncio.get_running_loop().time() + one.pause.next()
+        one.waits = one.waits or name

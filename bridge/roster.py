@@ -47,14 +47,17 @@ def ends_list(event: Event) -> bool:
 class Roster:
     """The nodes with their addresses, and the EndpointSlices of the speakers' Service with their
     speakers, both by name. `unlisted`: by kind, those that a list which begins anew hasn't shown
-    yet."""
+    yet. `found` and `told`: what `speakers` and `addresses` are since the last line."""
     namespace: str
     nodes: dict[str, str] = field(default_factory=dict)
     slices: dict[str, dict[str, Speaker]] = field(default_factory=dict)
     unlisted: dict[str, set[str]] = field(default_factory=dict)
+    found: dict[str, Speaker] | None = None
+    told: dict[str, str] | None = None
 
     def note(self, event: Event) -> None:
         """Takes in a line of the watches: an event, or ERROR ahead of lists that begin anew."""
+        self.found = self.told = None
         kind = (event.get("object") or {}).get("kind")
         if event["type"] == "ERROR":
             self.unlisted = {"Node": set(self.nodes), "EndpointSlice": set(self.slices)}
@@ -88,22 +91,24 @@ class Roster:
     def speakers(self) -> dict[str, Speaker]:
         """The speakers of the Service, none where there is no such. A node that two slices show is
         ready where one says so."""
-        found: dict[str, Speaker] = {}
-        for piece in self.slices.values():
-            for name, speaker in piece.items():
-                if speaker.ready or name not in found:
-                    found[name] = speaker
-        return found
+        if self.found is None:
+            self.found = {}
+            for piece in self.slices.values():
+                for name, speaker in piece.items():
+                    if speaker.ready or name not in self.found:
+                        self.found[name] = speaker
+        return self.found
 
     def addresses(self) -> dict[str, str]:
         """The nodes that are to be told: those with a speaker, or all where no Service shows
         them."""
-        speakers = self.speakers()
-        if not speakers:
-            return dict(self.nodes)
-        found = {name: self.nodes.get(name) or speaker.address
-                 for name, speaker in speakers.items()}
-        return {name: address for name, address in found.items() if address}
+        if self.told is None:
+            speakers = self.speakers()
+            told = {name: self.nodes.get(name) or speaker.address
+                    for name, speaker in speakers.items()}
+            self.told = {name: address for name, address in told.items() if address}
+            self.told = self.told if speakers else dict(self.nodes)
+        return self.told
 
     def ready(self) -> set[str]:
         """The nodes whose speakers are ready."""

@@ -11,8 +11,8 @@ from typing import Any
 from api import Answer, Api, Broken, Json, NotSent
 from common import Stop, api_of, warn
 from figures import ANNOUNCED, PREFIXES, SESSION_UP, size_of
+from lease import Unreadable, path_of, reading_of
 from puts import FROM_POOL
-from turns import LEASE, Lost, reading_of
 from watches import SERVICE_PATHS, config_paths
 
 SHORT = 10.0  # seconds for an answer
@@ -147,13 +147,12 @@ async def speakers_of(api: Api, options: argparse.Namespace) -> Speakers:
 
 async def controller_of(api: Api, options: argparse.Namespace) -> str:
     """Which controller has the Lease, and which puts it names."""
-    answer = await asked(api, f"/apis/coordination.k8s.io/v1/namespaces/{options.namespace}"
-                              f"/leases/{LEASE}")
+    answer = await asked(api, path_of(options.namespace))
     if answer.status != 200:
         return f"no controller's Lease: {answer.message}"
     try:
         reading = reading_of(answer.value)
-    except Lost as fault:
+    except Unreadable as fault:
         return f"the controller's Lease: {fault}"
     names = ", ".join(map(str, reading.names)) or "none"
     return f"{reading.holder or 'nobody'} is the controller; puts that may be on their way: {names}"

@@ -113,6 +113,16 @@ def hold(held: dict[Key, bytes], event: Json, line: bytes) -> None:
         held[key_of(event)] = line
 
 
+class Lists(Protocol):
+    """When Services may be listed, and nothing is given before that list is there."""
+
+    async def may_begin(self) -> object:
+        """Waits until the list may be asked for."""
+
+    async def came(self) -> object:
+        """It is there, and is given from now on. Waits until that may be."""
+
+
 class Watched:
     """One watch: the version from which it goes on, whether nothing but bookmarks came by its last
     connection, and what was told of it."""
@@ -139,34 +149,49 @@ class Watched:
 
 
 class Watches:
-    """`until_quiet` waits until no put is out that could still be stored. `fault_of` tells of a
-    line why it would end the program, or nothing: such a line is kept from it. `note` is told of
-    each line's number and event ahead of its being given. `guard` is asked of pools."""
+    """`asking` says when Services may be listed, where that isn't free. `fault_of` tells of a line
+    why it would end the program, or nothing: such a line is kept from it. `note` is told of each
+    line's number and event ahead of its being given. `guard` is asked of pools. `has_services`: the
+    list of Services is there; `begun`: lists may be given."""
 
     def __init__(self, api: Source, lane: Taker, paths: dict[str, str], fault_of: FaultOf,
-                 until_quiet: Callable[[], Awaitable[object]] | None = None,
-                 note: Note = lambda number, event: None,
+                 asking: Lists | None = None, note: Note = lambda number, event: None,
                  guard: PoolGuard | None = None) -> None:
         self.api, self.lane, self.paths, self.fault_of = api, lane, paths, fault_of
-        self.until_quiet, self.note, self.guard = until_quiet, note, guard
+        self.asking, self.note, self.guard = asking, note, guard
+        self.has_services, self.begun = asyncio.Event(), asyncio.Event()
         self.lists = {kind: asyncio.Event() for kind in paths}
         self.kept: dict[tuple[str, Key], str] = {}
 
     async def keep(self) -> None:
         """Gives the lane its watches' lines. Where one expires all end; once the program has taken
-        note of that, all begin anew. Both wait until no put is left that could be stored."""
+        note of that, all begin anew."""
+        is_first = True
         while True:
-            for ended in self.lists.values():
-                ended.clear()
+            for event in (*self.lists.values(), self.has_services, self.begun):
+                event.clear()
             self.kept.clear()
             with contextlib.suppress(Expired):
-                await self.follow_all()
-            if self.until_quiet:
-                await self.until_quiet()
+                if self.asking:
+                    await self.asking.may_begin()
+                    await together(self.begin_listed(self.asking, is_first), self.follow_all())
+                else:
+                    await self.begin(is_first)
+                    await self.follow_all()
+            is_first = False
+
+    async def begin_listed(self, asking: Lists, is_first: bool) -> None:
+        """Has lists given once that of the Services is there."""
+        await self.has_services.wait()
+        await asking.came()
+        await self.begin(is_first)
+
+    async def begin(self, is_first: bool) -> None:
+        """Has lists given. The program is told where they begin anew, and takes note of it."""
+        if not is_first:
             self.note(self.lane.given + 1, ANEW)
             await self.lane.until_taken(await self.lane.give(ERROR))
-            if self.until_quiet:
-                await self.until_quiet()
+        self.begun.set()
 
     async def follow_all(self) -> None:
         await together(self.tell_awaited(),
@@ -301,6 +326,9 @@ class Watches:
             self.guard.begin_pools()
             await self.guard.end_list(not held)
         watched.labels.clear()
+        if kind == "Service":
+            self.has_services.set()
+        await self.begun.wait()
         for last in held.values():
             one = json.loads(last)
             watched.changes_nothing(one)

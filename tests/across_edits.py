@@ -91,36 +91,46 @@ def crates_in(text: str) -> dict[str, list[str]]:
     return {name: low.split() for name, low in ROW.findall(text)}
 
 
-def stands_on(crate: str, other: str, crates: Mapping[str, Sequence[str]]) -> bool:
-    """Whether the crate stands on the other one, directly or through those between."""
-    return any(
-        low == other or stands_on(low, other, crates) for low in crates.get(crate, ())
-    )
+def below(crate: str, crates: Mapping[str, Sequence[str]]) -> set[str]:
+    """The crates that it stands on, directly or through others."""
+    found: set[str] = set()
+    left = [crate]
+    while left:
+        more = {low for low in crates[left.pop()] if low in crates} - found
+        found |= more
+        left += more
+    return found
+
+
+def in_turn(some: set[str], crates: Mapping[str, Sequence[str]]) -> list[str]:
+    """These crates, each after those of them that it stands on."""
+    return sorted(some, key=lambda it: (len(below(it, crates)), it))
 
 
 def in_order(edit: AcrossEdit, crates: Mapping[str, Sequence[str]]) -> list[str]:
-    """The crates that are checked with the edit, each behind those below it; the last refuses."""
-    turned = edit.crates()
-    for crate in sorted({*turned, edit.refused_by}):
+    """The crates that are checked with the edit, each after those below it; the last refuses.
+    Those that stand between the ones that are turned and that one are proved anew over these."""
+    turned, last = edit.crates(), edit.refused_by
+    for crate in sorted({*turned, last}):
         if crate not in crates:
             raise BadEdit(f"there is no crate {crate}")
-        if stands_on(crate, edit.refused_by, crates):
-            raise BadEdit(f"{crate} stands on {edit.refused_by}, which refuses the edit")
-    if not any(it == edit.refused_by or stands_on(edit.refused_by, it, crates) for it in turned):
-        raise BadEdit(f"{edit.refused_by} stands on nothing that is turned")
-    below = sorted(turned - {edit.refused_by})
-    below.sort(key=lambda it: sum(stands_on(it, other, crates) for other in below))
-    return [*below, edit.refused_by]
+        if last in below(crate, crates):
+            raise BadEdit(f"{crate} stands on {last}, which refuses the edit")
+    low = below(last, crates)
+    if last not in turned and not turned & low:
+        raise BadEdit(f"{last} stands on nothing that is turned")
+    checked = turned | {it for it in low if turned & below(it, crates)}
+    return [*in_turn(checked - {last}, crates), last]
 
 
-def is_proved(crate: str, lines: Sequence[str]) -> bool:
-    """Whether a run of `rt ci` says that the crate is proved."""
-    return f"rt: {crate} proved" in lines
+def is_proved(lines: Sequence[str]) -> bool:
+    """Whether a check of a crate says that it is proved."""
+    return any(line.startswith("logic=proved ") for line in lines)
 
 
-def is_refused(crate: str, lines: Sequence[str]) -> bool:
-    """Whether it says that the crate itself isn't, and not because of one below it."""
-    return f"rt: {crate} NOT PROVED" in lines
+def is_refused(lines: Sequence[str]) -> bool:
+    """Whether it says that the crate isn't; one that didn't come so far says neither."""
+    return any(line.startswith("logic=not-proved") for line in lines)
 
 
 def unread(lines: Sequence[str]) -> str | None:
@@ -129,5 +139,5 @@ def unread(lines: Sequence[str]) -> str | None:
 
 
 def first_error(lines: Sequence[str]) -> str:
-    """The first error that is told."""
-    return next((line for line in lines if ": error" in line), "no error is told")
+    """The first error that is told, or its beginning."""
+    return next((line[:160] for line in lines if ": error" in line), "no error is told")

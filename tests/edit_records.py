@@ -2,8 +2,9 @@
 from __future__ import annotations
 
 import hashlib
-from collections.abc import Iterable, Iterator
+from collections.abc import Iterable, Iterator, Mapping
 from dataclasses import dataclass
+from functools import cache
 from pathlib import Path
 
 import across_edits
@@ -29,8 +30,8 @@ class Edit:
 
 @dataclass(frozen=True)
 class Refusal:
-    """The checksum of what it is tried on when the edit was last refused, and the day (UTC, as
-    2026-12-01)."""
+    """The checksum of the edit and of what it is tried on when it was last refused, and the day
+    (UTC, as 2026-12-01)."""
 
     checksum: str
     day: str
@@ -62,8 +63,19 @@ def checksum_of(top: Path, crates: Iterable[str]) -> str:
     total = hashlib.sha256()
     for file in sorted(it for crate in crates for it in files_of(top / "crates" / crate)):
         total.update(f"{file.relative_to(top).as_posix()}\0".encode())
-        total.update(hashlib.sha256(file.read_bytes()).digest())
+        total.update(sum_of(file).encode())
     return total.hexdigest()[:16]
+
+
+@cache
+def sum_of(file: Path) -> str:
+    return hashlib.sha256(file.read_bytes()).hexdigest()
+
+
+def checksum_with(top: Path, edit: Edit, file: Path) -> str:
+    """A checksum of the edit, which is in this file, and of the crates that it is tried on."""
+    sums = (sum_of(file), checksum_of(top, crates_of(top, edit)))
+    return hashlib.sha256("".join(sums).encode()).hexdigest()[:16]
 
 
 def files_of(crate: Path) -> Iterator[Path]:
@@ -91,17 +103,15 @@ def write_refusals(file: Path, refusals: dict[Edit, Refusal]) -> None:
 
 
 def stale_edits(
-    top: Path, edits: Iterable[Edit], refusals: dict[Edit, Refusal]
-) -> dict[str, list[str]]:
-    """By crate, the edits that weren't seen refused since it changed, each with the day."""
-    found: dict[str, list[str]] = {}
-    sums: dict[frozenset[str], str] = {}
-    for edit in edits:
+    top: Path, edits: Mapping[Edit, Path], refusals: Mapping[Edit, Refusal]
+) -> dict[Edit, str]:
+    """The edits that weren't seen refused since they or their crates changed, each with the day of
+    the last refusal, or `never`."""
+    found: dict[Edit, str] = {}
+    for edit, file in edits.items():
         refusal = refusals.get(edit)
-        crates = frozenset(crates_of(top, edit))
-        if crates not in sums:
-            sums[crates] = checksum_of(top, crates)
-        if refusal is None or refusal.checksum != sums[crates]:
-            day = "never" if refusal is None else refusal.day
-            found.setdefault(edit.crate, []).append(f"{edit.name} ({day})")
+        if refusal is None:
+            found[edit] = "never"
+        elif refusal.checksum != checksum_with(top, edit, file):
+            found[edit] = refusal.day
     return found

@@ -26,6 +26,15 @@ def parts_of(frame: bytes) -> Parts:
     return {"to": frame[0:6].hex(":"), "from": frame[6:12].hex(":"), "address": str(target)}
 
 
+def address_of(text: str) -> str:
+    """An address that a reader tells in the one text that it has here: programs write one address
+    in several ways (::192.0.2.1 and ::c000:201). What is none stays."""
+    try:
+        return str(ipaddress.ip_address(text))
+    except ValueError:
+        return text
+
+
 def by_tshark(frames: list[bytes]) -> list[Parts | str] | None:
     """What tshark reads in each frame, or None where it isn't installed."""
     if not shutil.which("tshark"):
@@ -54,7 +63,7 @@ def read_fields(told: Parts) -> Parts | str:
         return f"neither a reply nor an advertisement with a right checksum: {told}"
     if sender != told["eth.src"]:
         return f"another sender: {told}"
-    return {"to": told["eth.dst"], "from": sender, "address": address}
+    return {"to": told["eth.dst"], "from": sender, "address": address_of(address)}
 
 
 def by_scapy(frames: list[bytes]) -> list[Parts | str] | None:
@@ -85,6 +94,6 @@ for line in sys.stdin:
     read: list[Parts | str] = []
     for line in ran.stdout.decode().splitlines():
         to, source, sender, address = line.split("|")
-        parts = {"to": to, "from": source, "address": address}
+        parts = {"to": to, "from": source, "address": address_of(address)}
         read.append(parts if sender == source else f"another sender: {sender}")
     return read

@@ -1,10 +1,10 @@
 """Server-side apply, in small: each manager's last applied object says which fields are its own.
 What it doesn't name any more is taken away, and what another one has set to something else is a
 conflict, unless that is forced."""
-import copy
 from collections.abc import Iterator
 from typing import Any
 
+from kinds import copied
 from patches import strategic
 
 Json = dict[str, Any]
@@ -49,7 +49,7 @@ class Applied:
         self.last: dict[tuple[Any, Any], dict[str, Json]] = {}
 
     def keep(self, kind: Any, key: Any, manager: str, body: Json) -> None:
-        self.last.setdefault((kind, key), {})[manager] = copy.deepcopy(body)
+        self.last.setdefault((kind, key), {})[manager] = copied(body)
 
     def merged(self, kind: Any, key: Any, manager: str, old: Json, body: Json,
                force: bool) -> Json:
@@ -66,7 +66,7 @@ class Applied:
             if other != manager and clash:
                 for path in clash:
                     without(applied, path)
-        thing = copy.deepcopy(old)
+        thing = copied(old)
         for path, _ in fields(managers.get(manager, {})):
             owners = [other for other, applied in managers.items()
                       if other != manager and value_at(applied, path) is not None]

@@ -1,8 +1,9 @@
 """How far a program has come: what the trace of its bridge tells of the lines that it was given and
 took.
 
-Before all that a line leads to the program tells that it took the line. So once it took a line all
-that those before it led to is done: written, and each put answered."""
+Before all that a line leads to a program over lanes tells that it took the line, and of one behind
+its fence the bridge tells it once all of that is done. So once a line was taken all that those
+before it led to is done: written, and each put answered."""
 from __future__ import annotations
 
 import bisect
@@ -48,6 +49,9 @@ class Followed:
             elif name == b"written" and b'"took"' in text:
                 told = json.loads(text)
                 self.took(told["lane"], told["n"])
+            elif name == b"took":
+                lane, at = text.split()
+                self.took(lane.decode(), int(at))
             elif name == b"started":
                 with self.news:
                     self.pid, self.lanes, self.asked = int(text), {}, set()
@@ -81,6 +85,11 @@ class Followed:
             if "resourceVersion" in metadata and not is_end:
                 version = int(metadata["resourceVersion"])
                 lane.bookmarks[event["object"]["kind"]].append(version)
+
+    def is_shown(self, pid: int) -> bool:
+        """Whether this program was given a line of note."""
+        with self.news:
+            return self.pid == pid and bool(self.lanes)
 
     def turns(self, name: str, kind: str, version: int) -> int:
         """How many bookmarks of the kind, at the version or later, the program took."""

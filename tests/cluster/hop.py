@@ -115,6 +115,13 @@ class Hop:
             self.frozen |= self.open
         self.wait(all_of())
 
+    def end_frozen(self) -> None:
+        """The connections by which nothing came any more end."""
+        def all_of() -> None:
+            for writer in self.frozen:
+                writer.close()
+        self.loop.call_soon_threadsafe(all_of)
+
     def release(self) -> list[int]:
         """What is held back comes now. The status of each answer."""
         async def all_of() -> list[int]:

@@ -2,9 +2,10 @@
 Kubernetes' strategic merge patches."""
 from __future__ import annotations
 
-import copy
 from collections.abc import Iterable
 from typing import Any
+
+from kinds import copied
 
 # The lists that a strategic patch merges item by item, with the member that names an item; other
 # lists are replaced whole.
@@ -20,7 +21,7 @@ class BadPatch(Exception):
 def merge(target: Any, patch: Any) -> Any:
     """RFC 7386, section 2."""
     if not isinstance(patch, dict):
-        return copy.deepcopy(patch)
+        return copied(patch)
     result = dict(target) if isinstance(target, dict) else {}
     for name, value in patch.items():
         if value is None:
@@ -34,7 +35,7 @@ def strategic(target: Any, patch: Any, path: tuple[str, ...] = ()) -> Any:
     """A strategic merge patch: as a merge patch, but that some lists are merged by a key, and that
     `$patch`, `$retainKeys`, `$setElementOrder/L` and `$deleteFromPrimitiveList/L` direct it."""
     if not isinstance(patch, dict):
-        return copy.deepcopy(patch)
+        return copied(patch)
     if patch.get("$patch") == "replace":
         return {name: value for name, value in patch.items() if name != "$patch"}
     result = dict(target) if isinstance(target, dict) else {}
@@ -55,7 +56,7 @@ def strategic(target: Any, patch: Any, path: tuple[str, ...] = ()) -> Any:
         elif isinstance(value, dict):
             result[name] = strategic(result.get(name), value, (*path, name))
         else:
-            result[name] = copy.deepcopy(value)
+            result[name] = copied(value)
     for name, value in patch.items():
         if name.startswith("$setElementOrder/"):
             listed = name.split("/", 1)[1]
@@ -75,7 +76,7 @@ def merged_list(items: list[Any], patch: list[Any], key: str | None) -> list[Any
         if item.get("$patch") == "delete":
             result = [other for other in result if other.get(key) != item.get(key)]
         elif at is None:
-            result.append(copy.deepcopy(item))
+            result.append(copied(item))
         else:
             result[at] = strategic(result[at], item)
     return result
@@ -93,7 +94,7 @@ def order_list(target: dict[str, Any], name: str, order: Iterable[Any],
 
 def json_patch(target: Any, steps: Iterable[Any]) -> Any:
     """RFC 6902: add, remove, replace and test."""
-    result = copy.deepcopy(target)
+    result = copied(target)
     for step in steps:
         parts = [part.replace("~1", "/").replace("~0", "~")
                  for part in step["path"].split("/")[1:]]

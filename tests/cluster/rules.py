@@ -27,6 +27,7 @@ ByName = Mapping[str, Json]
 
 # Addresses and entries
 
+@lru_cache(100_000)
 def read_address(text: str) -> Address | None:
     """The address of a text, or None; those of ::ffff:0:0/96 are none."""
     try:
@@ -44,6 +45,7 @@ def printed(address: Address) -> str:
     return str(ipaddress.IPv4Address(number) if version == 4 else ipaddress.IPv6Address(number))
 
 
+@lru_cache(10_000)
 def read_entry(text: str) -> Span | None:
     """The span of a pool's entry, or None where it can't be read."""
     span = read_range(text) if "-" in text else read_prefix(text)
@@ -72,6 +74,7 @@ def read_prefix(text: str) -> Span | None:
     return address[0], low, low + size - 1
 
 
+@lru_cache(10_000)
 def least_length(span: Span) -> int:
     make: Any = ipaddress.IPv4Address if span[0] == 4 else ipaddress.IPv6Address
     low, high = make(span[1]), make(span[2])

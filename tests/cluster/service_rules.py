@@ -1,9 +1,8 @@
 """What an API server makes of a Service: defaults, what it refuses, and the status that goes with
 the type."""
-import copy
 import ipaddress
 
-from kinds import Json
+from kinds import Json, copied
 
 TYPES = ("ClusterIP", "NodePort", "LoadBalancer", "ExternalName")
 PROTOCOLS = ("TCP", "UDP", "SCTP")
@@ -33,7 +32,7 @@ def settle(thing: Json, old: Json | None) -> str | None:
         spec.setdefault("externalTrafficPolicy", "Cluster")
     if spec["type"] == "LoadBalancer":
         spec.setdefault("allocateLoadBalancerNodePorts", True)
-    status = copy.deepcopy(thing.get("status") or {})
+    status = copied(thing.get("status") or {})
     status.setdefault("loadBalancer", {})
     if spec["type"] != "LoadBalancer":
         status["loadBalancer"] = {}  # the API server itself takes the addresses away

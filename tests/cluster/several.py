@@ -225,7 +225,7 @@ class SeveralWorld(World):
         bridge, hop = self.controllers[at], self.hops[at]
         for _ in range(self.random.choice((0, 0, 4, 12))):  # a rush: one put follows the other
             self.users.edit_services()
-        match self.random.choice((*5 * ("program",), "bridge", "cut", "cut", "still")):
+        match self.random.choice((*5 * ("program",), "bridge", "cut", "cut", "still", "freeze")):
             case "program":
                 self.kills += self.bridge.kill()
             case "bridge":
@@ -238,6 +238,10 @@ class SeveralWorld(World):
                 self.later(self.weather.length(), hop.mend)
             case "still":
                 self.still_for(bridge, self.weather.length())
+            case "freeze":  # half-open: what comes by its watches is old then
+                hop.freeze()
+                self.cuts += 1
+                self.later(self.weather.length(), hop.end_frozen)
 
     def round(self) -> list[str]:
         self.weather.share = self.random.choice((0.05, 0.2, 0.5))

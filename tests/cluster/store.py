@@ -6,7 +6,6 @@ keep it. `on_change` is called after each change while the store is locked, `on_
 change of a service's status; what that returns is told what came of it, step by step."""
 from __future__ import annotations
 
-import copy
 import threading
 import time
 import uuid
@@ -15,7 +14,7 @@ from typing import Any, NamedTuple
 
 import service_rules
 from applying import Applied, Conflict
-from kinds import BY_NAME, BY_PLURAL, KINDS, Json, Kind
+from kinds import BY_NAME, BY_PLURAL, KINDS, Json, Kind, copied
 from patches import BadPatch, json_patch, merge, strategic
 
 MERGE, STRATEGIC, JSON_PATCH = (f"application/{name}+json" for name in (
@@ -165,7 +164,7 @@ class Store:
         """A copy of the body with the kind and the namespace of the request."""
         if not isinstance(body, dict) or not isinstance(body.get("metadata"), dict):
             raise Refused(400, "the body is no object with metadata")
-        thing: Json = copy.deepcopy(body)
+        thing: Json = copied(body)
         told = thing.get("kind", kind.name), thing.get("apiVersion", kind.api_version)
         if told != (kind.name, kind.api_version):
             raise Refused(400, f"the object is no {kind.name} of {kind.api_version}")
@@ -229,7 +228,7 @@ class Store:
             try:
                 forms: dict[str, Callable[[Any, Any], Any]] = {
                     MERGE: merge, STRATEGIC: strategic, JSON_PATCH: json_patch}
-                thing: Json = copy.deepcopy(forms[form](old, body))
+                thing: Json = copied(forms[form](old, body))
             except (BadPatch, KeyError, AttributeError, TypeError) as error:
                 raise Refused(422 if form == JSON_PATCH else 400,
                               f"the patch can't be applied: {error}") from error
@@ -278,20 +277,20 @@ class Store:
                 metadata[name] = old["metadata"][name]
         if status:
             texts = metadata if not kind.custom else old["metadata"]
-            kept: Json = copy.deepcopy(old["metadata"])
+            kept: Json = copied(old["metadata"])
             for name in ("labels", "annotations"):
                 kept.pop(name, None)
                 if texts.get(name):
-                    kept[name] = copy.deepcopy(texts[name])
+                    kept[name] = copied(texts[name])
             status_told = thing.get("status") or {}
-            thing = {**copy.deepcopy(old), "metadata": kept, "status": status_told}
+            thing = {**copied(old), "metadata": kept, "status": status_told}
             if kind.name == "Service":
                 fault = service_rules.status_fault(thing)
                 if fault:
                     raise Refused(422, f'Service "{key[1]}" is invalid: {fault}')
         else:
             if kind.status and "status" in old:
-                thing["status"] = copy.deepcopy(old["status"])
+                thing["status"] = copied(old["status"])
             self.settle(kind, thing, old)
         metadata = thing["metadata"]
         for name in ("labels", "annotations"):
@@ -314,7 +313,7 @@ class Store:
                     raise Refused(409, f"Precondition failed: {name} in precondition: {value}, "
                                        f"in object meta: {old['metadata'].get(name)}")
             self.may("delete", kind, key, None)
-            thing = copy.deepcopy(old)
+            thing = copied(old)
             if old["metadata"].get("finalizers"):
                 thing["metadata"].setdefault("deletionTimestamp", now())
                 return old if thing == old else self.record("MODIFIED", kind, key, thing)

@@ -97,13 +97,13 @@ def pool_text(pool: Pool) -> str:
 
 
 def put_of(key: Key, body: Json) -> Put:
-    """The put that a patch of a status is."""
+    """The put that a patch of a status is; at version 0 where it names none."""
     notes = body["metadata"].get("annotations") or {}
     ingress = ((body.get("status") or {}).get("loadBalancer") or {}).get("ingress") or []
     read = (read_address(one["ip"]) for one in ingress)
     record = Record(tuple(one for one in read if one), notes.get(FROM_POOL) or "",
                     notes.get(HELD_AS) or "")
-    return Put(key, int(body["metadata"]["resourceVersion"]), record)
+    return Put(key, int(body["metadata"].get("resourceVersion") or 0), record)
 
 
 class Judge:

@@ -2,12 +2,11 @@
 write what the controller writes."""
 from __future__ import annotations
 
-import copy
 import functools
 import random
 from collections.abc import Callable, Sequence
 
-from kinds import BY_NAME, Json
+from kinds import BY_NAME, Json, copied
 from rules import (ADDRESSES, FROM_POOL, HELD_AS, POOL, SHARED, Config, compiled, is_balancer,
                    printed, read_entry, record_of)
 from store import MERGE, Key, Refused, Store
@@ -65,8 +64,7 @@ class Users:
     def begin(self) -> None:
         """The namespaces, two pools, an advertisement of each kind, and some services, of which
         some have a record as MetalLB leaves it."""
-        for name, labels in SPACES.items():
-            self.store.put(space(name, labels))
+        self.begin_spaces()
         self.store.put(custom("IPAddressPool", "p0", {"addresses": SPANS[:1]}))
         self.store.put(custom("IPAddressPool", "p1", {"addresses": [SPANS[5], SPANS[6]]}))
         self.store.put(custom("L2Advertisement", "l0", {}))
@@ -77,10 +75,14 @@ class Users:
             if self.flip(0.7):
                 self.make([functools.partial(self.leave_record, at, key)])
 
+    def begin_spaces(self) -> None:
+        for name, labels in SPACES.items():
+            self.store.put(space(name, labels))
+
     def leave_record(self, at: int, key: Key) -> None:
         """The service has an address without a mark. Some others have it too, and most of these
         may share it."""
-        thing = copy.deepcopy(self.services()[key])
+        thing = copied(self.services()[key])
         if self.flip(0.8):
             protocol, port = PORTS[at % len(PORTS)]
             thing["metadata"].setdefault("annotations", {})[SHARED] = "k1"
@@ -139,7 +141,7 @@ class Users:
             if old is None:
                 self.store.create(SERVICE, key[0], self.service(key[1]))
             else:
-                thing = copy.deepcopy(old)
+                thing = copied(old)
                 for change in self.random.sample(self.changes(), self.random.choice([1, 1, 2])):
                     change(thing)
                 self.store.update(SERVICE, key, thing)
@@ -147,8 +149,8 @@ class Users:
             self.slice_of(*key)
 
     def holders(self) -> dict[Key, Json]:
-        """The services that have one address, and copies of them."""
-        return {key: copy.deepcopy(thing) for key, thing in self.services().items()
+        """The services that have one address, as they are stored."""
+        return {key: thing for key, thing in self.services().items()
                 if len(record_of(thing).addresses) == 1}
 
     def want_taken(self) -> None:
@@ -164,7 +166,7 @@ class Users:
 
     def ask(self, key: Key, address: str) -> None:
         """A service asks for this address."""
-        thing = copy.deepcopy(self.services().get(key)) or self.service(key[1])
+        thing = copied(self.services().get(key)) or self.service(key[1])
         thing["metadata"].setdefault("annotations", {})[ADDRESSES] = address
         if "resourceVersion" in thing["metadata"]:
             self.store.update(SERVICE, key, thing)
@@ -219,8 +221,8 @@ class Users:
                 return
             for _ in range(self.random.choice([0, 0, 2, 3])):
                 self.want(self.holders()[key])
-            thing = self.holders().get(key)
-            if thing:
+            if stored := self.holders().get(key):
+                thing = copied(stored)
                 name, value = self.random.choice([(POOL, "p9"), (ADDRESSES, "203.0.113.1"),
                                                   (ADDRESSES, "x")])
                 thing["metadata"].setdefault("annotations", {})[name] = value
@@ -380,6 +382,8 @@ class Users:
                 spec["communities"] = self.random.sample(texts, 2)
             if self.flip(0.3):
                 spec["aggregationLength"] = self.random.choice([30, 31])
+            if self.flip(0.3):
+                spec["aggregationLengthV6"] = self.random.choice([126, 127])
             if self.flip(0.3):
                 spec["localPref"] = self.random.choice([100, 200])
         elif self.flip(0.2):

@@ -16,7 +16,8 @@ from collections.abc import Callable, Mapping, Sequence
 
 from followed import Followed
 from kinds import BY_NAME, Json, Kind
-from serving import Faults, Server
+from rules import record_of
+from serving import Faults, Server, Watch
 from store import Key, Store
 from store_judge import Judge
 from users import Users
@@ -31,14 +32,19 @@ SHORTEST_PAUSE, LONGEST_PAUSE = 0.02, 0.2  # seconds between two looks
 FIRST_PAUSE = 0.1  # seconds until bookmarks are called for again where nothing came of it
 LONGEST_ROUND = 60.0  # seconds in which users edit
 STARTED = 60.0  # seconds for the first program to start
+BARRED = 0.3  # of the rounds have a service whose puts are all refused
 LAST_EDITS = 20  # at most so many of services alone, behind all others
+# The statuses of a program that was killed, and of one whose lanes and input were closed: all was
+# driven, a put had no reply, or it was killed for not ending.
+KILLED, CLOSED = "-9", ("0", "8", "-9")
+WORTH_TELLING = ("for good", "nothing more is taken")
 NOT_STILL = "NOT STILL"
 NO_VERDICT = "WAITS"  # begins a line that tells why it can't be judged yet
 
 CONFIG_KINDS = ("IPAddressPool", "L2Advertisement", "BGPAdvertisement", "Community", "BGPPeer",
                 "Namespace")
 LANES: dict[str, dict[str, tuple[str, ...]]] = {
-    "controller": {"config": CONFIG_KINDS, "service": ("Service",)},
+    "controller": {"watch": (*CONFIG_KINDS, "Service")},
     "speaker": {"watch": (*CONFIG_KINDS, "Node", "Service", "EndpointSlice")}}
 Latest = Mapping[Kind, int]  # the version of each kind's last change
 
@@ -60,11 +66,14 @@ def text_of(line: str) -> str:
 class Bridge:
     """A bridge, and which process is its program now. `program` is None from the end of one until
     the next has begun; `kinds` are those that its lanes carry, by the lanes' names. Its trace is
-    followed, and kept in a file where that is asked for."""
+    followed, and kept in a file where that is asked for. `ended` is told where it or its program
+    ends though nobody ended it."""
 
     def __init__(self, words: Sequence[str], kinds: Mapping[str, Sequence[str]],
-                 started: Callable[[], None] = lambda: None, kept: str | None = None) -> None:
+                 started: Callable[[], None] = lambda: None, kept: str | None = None,
+                 ended: Callable[[str], object] = lambda text: None) -> None:
         self.kinds, self.started, self.followed = kinds, started, Followed()
+        self.name, self.ended, self.is_to_end = words[0], ended, False
         trace, traced = os.pipe()
         words = [*words, "--trace", f"/dev/fd/{traced}"]
         self.process = subprocess.Popen(
@@ -72,13 +81,20 @@ class Bridge:
             stdout=subprocess.DEVNULL, stderr=subprocess.PIPE, text=True, pass_fds=[traced])
         os.close(traced)
         self.program: int | None = None
+        self.killed: int | None = None
         self.runs = 0
         self.told: list[str] = []
         self.changed = threading.Lock()
         copy = open(kept, "ab") if kept else None
         threading.Thread(target=self.followed.listen, args=(open(trace, "rb"), copy),
                          daemon=True).start()
-        threading.Thread(target=self.listen, daemon=True).start()
+        self.listener = threading.Thread(target=self.listen, daemon=True)
+        self.listener.start()
+
+    def serves(self) -> bool:
+        """Whether its program is shown the cluster."""
+        with self.changed:
+            return self.program is not None and self.followed.is_shown(self.program)
 
     def turns(self, latest: Latest) -> int:
         """How many times the program took note, of each kind, that nothing comes behind the
@@ -91,18 +107,30 @@ class Bridge:
 
     def listen(self) -> None:
         assert self.process.stderr is not None
+        run: int | None = None
         for line in self.process.stderr:
             with self.changed:
                 word, _, rest = line.strip().partition(": ")
                 if word == "program started":
-                    self.program, self.runs = int(rest), self.runs + 1
+                    run = self.program = int(rest)
+                    self.runs += 1
                     self.started()
+                elif word == "program ended by itself":
+                    self.program = None
+                    if (run, rest) != (self.killed, KILLED):
+                        self.ended(f"ENDED the {self.name}'s program by itself: {rest}")
+                    run = None
                 elif word == "program ended":
                     self.program = None
-                    if rest not in ("-9", "0"):
-                        self.told.append(line.strip())
-                elif "Error" in line or "for good" in line:
+                    if run is not None and rest not in CLOSED:
+                        self.ended(f"ENDED the {self.name}'s program, once all was closed: {rest}")
+                elif "Error" in line or any(text in line for text in WORTH_TELLING):
                     self.told.append(line.strip())
+        self.process.stderr.close()
+        status = self.process.wait()
+        with self.changed:
+            if not self.is_to_end:
+                self.ended(f"ENDED the bridge of the {self.name} by itself: {status}")
 
     def kill(self) -> bool:
         """kill -9 of the program, if there is one that wasn't killed yet."""
@@ -110,6 +138,7 @@ class Bridge:
             if self.program is None:
                 return False
             pid, self.program = self.program, None
+            self.killed = pid
         try:
             os.kill(pid, signal.SIGKILL)
         except ProcessLookupError:
@@ -123,7 +152,13 @@ class Bridge:
     def go_on(self) -> None:
         self.process.send_signal(signal.SIGCONT)
 
+    def end_soon(self) -> None:
+        """From now on it is no fault that it ends."""
+        with self.changed:
+            self.is_to_end = True
+
     def stop(self) -> None:
+        self.end_soon()
         self.process.send_signal(signal.SIGTERM)
         try:
             self.process.wait(30)
@@ -132,6 +167,7 @@ class Bridge:
 
     def end(self) -> None:
         """kill -9 of the bridge and of what it started."""
+        self.end_soon()
         started: list[int] = []
         for path in pathlib.Path(f"/proc/{self.process.pid}/task").glob("*/children"):
             # (a thread may end meanwhile)
@@ -168,10 +204,14 @@ class Plague(Faults):
         super().__init__(seed)
         self.stops = self.forbidden = 0.0
         self.stop: Callable[[], None] = lambda: None
+        self.expiring: list[Watch] = []  # those that expire ahead of their next event
 
     def of_change(self, verb: str, kind: Kind, _key: Key, _body: Json | None) -> str | None:
         is_put = verb == "patch/status" and kind.name == "Service"
         return "made up" if is_put and self.draw(self.forbidden, True) else None
+
+    def of_event(self, watch: Watch) -> str | None:
+        return "expires" if watch in self.expiring else super().of_event(watch)
 
     def of_put(self, agent: str, key: Key) -> str | None:
         if self.draw(self.stops, True):
@@ -199,6 +239,8 @@ class World:
 
     def __init__(self, seed: int, controller: str | None = None, trace: str | None = None) -> None:
         self.seed, self.random, self.patience = seed, random.Random(seed), PATIENCE
+        self.ends: list[str] = []  # of programs and bridges that nobody ended
+        self.barred: Key | None = None  # a service of which each put is refused
         self.trace = trace
         self.lb_class = self.random.choice((None, None, "example.com/class"))
         self.store = Store(history=200)
@@ -223,7 +265,14 @@ class World:
 
     def forbidden(self, verb: str, kind: Kind, key: Key, body: Json | None) -> str | None:
         """Why a change is forbidden, or nothing."""
+        if key == self.barred and verb == "patch/status" and self.is_put(key, body):
+            return "its addresses are no controller's to change"
         return self.faults.of_change(verb, kind, key, body)
+
+    def is_put(self, key: Key, body: Json | None) -> bool:
+        """Whether a service that is about to be stored has another record than it had."""
+        stored = self.store.objects[BY_NAME["Service"]].get(key)
+        return body is not None and stored is not None and record_of(body) != record_of(stored)
 
     def begin(self) -> None:
         """What a cluster has besides."""
@@ -237,7 +286,8 @@ class World:
 
     def start_at(self, at: int) -> Bridge:
         words = ["controller", "--server", self.url_of(at), *self.words]
-        return Bridge(words, LANES["controller"], kept=self.kept(f"controller{at}"))
+        return Bridge(words, LANES["controller"], kept=self.kept(f"controller{at}"),
+                      ended=self.ends.append)
 
     def until_started(self) -> None:
         """Waits until there was a program, for a while at most."""
@@ -247,9 +297,10 @@ class World:
 
     @property
     def bridge(self) -> Bridge:
-        """The one that serves, where one does."""
-        return next((one for one in self.controllers if one.program is not None),
-                    self.controllers[0])
+        """The one that serves, where one does; else one whose program waits for the Lease."""
+        return next((one for one in self.controllers if one.serves()),
+                    next((one for one in self.controllers if one.program is not None),
+                         self.controllers[0]))
 
     def kept(self, name: str) -> str | None:
         """The file that keeps the lines which a bridge gives and hears, where that is asked
@@ -269,9 +320,10 @@ class World:
     def round(self) -> list[str]:
         """One round; the lines of what is wrong."""
         self.faults.rage()
+        self.barred = self.users.any_key() if self.random.random() < BARRED else None
         until, pace = time.monotonic() + LONGEST_ROUND, self.random.choice([0.01, 0.03, 0.1])
         for _ in range(round(self.random.uniform(*self.SECONDS) / pace)):
-            if time.monotonic() > until or self.judge.faults:
+            if time.monotonic() > until or self.wrong():
                 break
             self.users.edit()
             if self.random.random() < pace * self.harms:
@@ -279,6 +331,7 @@ class World:
             time.sleep(self.random.uniform(0, 2 * pace))
         self.users.mend()
         self.faults.calm()
+        self.barred = None
         self.heal()
         self.rounds += 1
         self.last_edits()
@@ -288,7 +341,7 @@ class World:
         """Once the controller was shown all, services alone are edited, and replies are lost.
         Nothing wakes behind it who isn't woken as an address comes free."""
         until, calls = time.monotonic() + self.patience, Calls(self.server)
-        while not self.judge.faults and time.monotonic() < until:
+        while not self.wrong() and time.monotonic() < until:
             latest = self.store.latest_versions()
             if self.bridge.turns(latest):
                 break
@@ -311,6 +364,10 @@ class World:
         """Those whose programs are to take note of all."""
         return [self.bridge]
 
+    def wrong(self) -> list[str]:
+        """What is wrong whatever comes."""
+        return [*self.judge.faults, *self.ends]
+
     def left(self, come: bool) -> list[str]:
         """What is left to be done. `come`: whether all programs were shown all that there is."""
         return self.judge.left()
@@ -323,7 +380,7 @@ class World:
         left: list[str] = []
         stays: set[str] = set()
         calls, slow_at = Calls(self.server), begun + SLOW
-        while not self.judge.faults:
+        while not self.wrong():
             now, latest = time.monotonic(), self.store.latest_versions()
             if now > slow_at:
                 self.slow()
@@ -345,7 +402,7 @@ class World:
                 why = f"{NOT_STILL} after {self.patience} s, and so without a verdict"
                 return [why, *left, *self.bridge.told]
             time.sleep(min(LONGEST_PAUSE, SHORTEST_PAUSE + (now - begun) / 20))
-        return self.judge.faults
+        return self.wrong()
 
     def stop(self) -> None:
         for bridge in self.controllers:

@@ -12,14 +12,13 @@ from running import Bridge, Reviews, free_port, got
 
 
 class Place(NamedTuple):
-    """Where a test is: its folder, the programs, the API server, TLS in front of it, and the words
-    by which a bridge asks there."""
+    """Where a test is: its folder, the programs, the API server, and TLS and rights in front of
+    it."""
 
     folder: pathlib.Path
     programs: pathlib.Path
     cluster: Cluster
     front: Front
-    words: list[object]
 
     def program(self, name: str) -> pathlib.Path:
         return self.programs / name
@@ -40,7 +39,7 @@ def serves(tally: Tally, place: Place) -> Bridge:
     begun = time.monotonic()
     one = Bridge(place.folder, "one", "controller", "--program", place.program("mlb_controller"),
                  "--admit", place.program("mlb_admit"), "--lease-seconds", 3,
-                 "--figures", f"127.0.0.1:{at}", *place.words)
+                 "--figures", f"127.0.0.1:{at}", *front.words("controller"))
     tally.check("three services get addresses by TLS, a token and lists in pages",
                 until(lambda: all(cluster.addresses().values())),
                 f"after {time.monotonic() - begun:.1f} s")
@@ -49,10 +48,10 @@ def serves(tally: Tally, place: Place) -> Bridge:
     tally.check("lists came in pages", front.pages > 8, front.pages)
     tally.check("it is well and ready",
                 got(at, "/healthz")[0] == 200 and got(at, "/readyz")[0] == 200)
-    front.token = b"second"
+    front.take(b"second")
     front.cut()
     until(lambda: front.refused)
-    (place.folder / "token").write_text("second\n")
+    front.give()
     cluster.put(service("d"))
     tally.check("with the new token a fourth one does",
                 until(lambda: cluster.addresses()["d"]), cluster.addresses()["d"])
@@ -73,7 +72,7 @@ def fenced(tally: Tally, place: Place, one: Bridge) -> None:
     cluster.put(service("b2"))
     begun = time.monotonic()
     two = Bridge(place.folder, "two", "controller", "--program", place.program("mlb_controller"),
-                 "--lease-seconds", 3, "--server", cluster.url)
+                 "--lease-seconds", 3, *front.beside().words("controller"))
     tally.check("another controller takes over, and gives the address to b2",
                 until(lambda: cluster.addresses()["b2"]), f"after {time.monotonic() - begun:.1f} s")
     parts: list[bytes] = []
@@ -92,7 +91,8 @@ def admits(tally: Tally, place: Place) -> None:
     at, figures, folder = free_port(), free_port(), place.folder
     desk = Bridge(folder, "desk", "admit", "--program", place.program("mlb_admit"), "--services",
                   "--certificate", folder / "tls.crt", "--key", folder / "tls.key",
-                  "--listen", f"127.0.0.1:{at}", "--figures", f"127.0.0.1:{figures}", *place.words)
+                  "--listen", f"127.0.0.1:{at}", "--figures", f"127.0.0.1:{figures}",
+                  *place.front.words("admission"))
     ask = Reviews(at, folder / "ca.crt")
     tally.check("the webhook is ready", until(lambda: got(figures, "/readyz")[0] == 200))
     judges(tally, place, ask)
@@ -191,7 +191,8 @@ def speaks(tally: Tally, place: Place) -> None:
         "passwordSecret": {"name": "s"}, "bfdProfile": "f"}))
     one = Bridge(place.folder, "speaker", "speaker", "--program", place.program("mlb_speaker"),
                  "--node-name", "n1", "--next-hop", "127.0.0.1", "--secret", place.folder / "keys",
-                 "--beat-port", free_port(), "--figures", f"127.0.0.1:{at}", *place.words)
+                 "--beat-port", free_port(), "--figures", f"127.0.0.1:{at}",
+                 *place.front.words("speaker"))
     tally.check("a speaker is a member", until(lambda: "members: n1" in one.told()))
     tally.check("it is ready", until(lambda: got(at, "/readyz")[0] == 200))
     tally.check("it tells what becomes of its session, which nobody answers",
@@ -224,7 +225,8 @@ def tells_where(tally: Tally, place: Place, one: Bridge) -> None:
 def counted(tally: Tally, place: Place) -> None:
     """A controller that is started anew counts the Events that there are."""
     one = Bridge(place.folder, "third", "controller", "--program",
-                 place.program("mlb_controller"), "--lease-seconds", 1, *place.words)
+                 place.program("mlb_controller"), "--lease-seconds", 1,
+                 *place.front.words("controller"))
 
     def is_counted() -> bool:
         return any(account == "controller" and method == "PATCH" and "/events/" in path

@@ -1,4 +1,4 @@
-"""The rights that the manifests give: each request is allowed, and each right is used."""
+"""The rights that the manifests give: they judge each request, and each is needed."""
 import itertools
 import re
 from typing import NamedTuple
@@ -23,6 +23,10 @@ class Right(NamedTuple):
     name: str | None
 
 
+Rights = dict[str, set[Right]]  # of each account
+Asked = tuple[str, str, str]  # account, method, target
+
+
 def rules_of(things: list[Thing], binding: Thing) -> list[Thing]:
     """The rules of the role that a binding names, which is of the binding's namespace if it isn't
     the cluster's."""
@@ -34,9 +38,9 @@ def rules_of(things: list[Thing], binding: Thing) -> list[Thing]:
     return found
 
 
-def given(things: list[Thing]) -> dict[str, set[Right]]:
+def given(things: list[Thing]) -> Rights:
     """What each account may do."""
-    found: dict[str, set[Right]] = {}
+    found: Rights = {}
     for thing in things:
         if "subjects" not in thing:
             continue
@@ -47,6 +51,11 @@ def given(things: list[Thing]) -> dict[str, set[Right]]:
         for account in thing["subjects"]:
             found.setdefault(account["name"], set()).update(rights)
     return found
+
+
+def manifests() -> Rights:
+    """What deploy/ gives."""
+    return given([thing for thing in built(str(TOP / "deploy")) if isinstance(thing, dict)])
 
 
 def wanted(method: str, target: str) -> Right:
@@ -67,20 +76,30 @@ def allowing(right: Right) -> set[Right]:
             for where, name in itertools.product(wheres, names)}
 
 
-def try_rights(tally: Tally, asked: set[tuple[str, str, str]]) -> None:
-    """`asked`: which account made which request."""
-    rights = given([thing for thing in built(str(TOP / "deploy")) if isinstance(thing, dict)])
-    denied, used = [], set()
-    for account, method, target in sorted(asked):
-        if target in FREE:
-            continue
-        by = allowing(wanted(method, target)) & rights.get(account, set())
-        used |= {(account, each) for each in by}
-        if not by:
-            denied.append((account, method, target))
+def refusal(rights: Rights, account: str, method: str, target: str) -> str | None:
+    """What an API server says to a request that the account's rights don't allow, or nothing."""
+    if target in FREE:
+        return None
+    right = wanted(method, target)
+    if allowing(right) & rights.get(account, set()):
+        return None
+    where = f'in the namespace "{right.namespace}"' if right.namespace else "at the cluster scope"
+    return (f'User "system:serviceaccount:{SYSTEM}:{account}" cannot {right.verb} resource '
+            f'"{right.resource}" in API group "{right.group}" {where}')
+
+
+def without(rights: Rights, account: str, right: Right) -> Rights:
+    return {**rights, account: rights[account] - {right}}
+
+
+def try_rights(tally: Tally, rights: Rights, asked: set[Asked], denied: list[str]) -> None:
+    """`asked`: which account made which request, each judged by the rights as it came; `denied`:
+    those that were refused."""
     tally.check("each request is allowed by its account's rights", asked and not denied, denied)
-    unused = {(account, each) for account, all_ in rights.items() for each in all_} - used
-    tally.check("and each right is used", not unused, sorted(unused, key=str))
+    spare = [(account, right) for account, all_ in rights.items() for right in all_
+             if not any(refusal(without(rights, account, right), *one) for one in asked)]
+    tally.check("and each right is needed: without it one of them is refused", not spare,
+                sorted(spare, key=str))
     changing = {(account, each.resource, each.verb, each.namespace, each.name)
                 for account, all_ in rights.items() for each in all_
                 if each.verb not in ("get", "list", "watch")}

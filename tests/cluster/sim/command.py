@@ -26,14 +26,18 @@ if TYPE_CHECKING:
     from history import Asked, Result
 
 SALTS, FEW = 6, 40  # with how many salts a history of fewer troubles than so many is tried
-HASHES = HERE / "hashes.json"
+HASHES, SEEDS = HERE / "hashes.json", HERE / "planted.json"
+PYTHON = f"{sys.version_info.major}.{sys.version_info.minor}"  # another's asyncio has other steps
 WRITTEN = sorted((HERE / "histories.d").glob("*.json"))
 CHECKED = (("one", 1), ("failover", 2), ("pair", 3), ("three", 4), ("speakers", 5), ("speakers", 6))
-CHECKED_SECONDS = 120.0
+CHECKED_SECONDS = 60.0
 HANGS = 150.0  # seconds of the processor after which a history counts as one that never ends
 AT_THE_END = ("UNSETTLED", "ENDED")  # what is told once a history is over
 BEHIND = 200.0  # seconds after a difference up to which a history is shrunk
 MODES = ("failover", "pair", "one", "three")
+VIRTUAL, SHORT = 15.0, 5.0  # minutes of a history's troubles
+LEAST = 1e-9  # minutes of the processor for one history
+EACH = 300.0  # seconds of the clock, until it is told again how far it came
 
 
 def names(text: str) -> tuple[str, ...]:
@@ -44,6 +48,8 @@ def words(given: Sequence[str]) -> argparse.Namespace:
     ask = argparse.ArgumentParser(description="Histories of a small cluster in virtual time.")
     ask.add_argument("--seed", type=int, default=1)
     ask.add_argument("--minutes", type=float, default=1.0, help="of the clock (%(default)s)")
+    ask.add_argument("--processor", type=float, metavar="MINUTES",
+                     help="so many minutes of the processor in place of those of the clock")
     ask.add_argument("--histories", type=int, help="so many in place of so many minutes")
     ask.add_argument("--jobs", type=int, default=1, help="processes at a time (%(default)s)")
     ask.add_argument("--mode", choices=(*MODES, "all", "speakers"), default="all",
@@ -51,8 +57,8 @@ def words(given: Sequence[str]) -> argparse.Namespace:
                           "seed; `speakers`: nodes with speakers in their place")
     ask.add_argument("--kinds", type=names, help="the kinds of troubles (all); see troubles.py")
     ask.add_argument("--without", type=names, default=(), help="faults of requests that don't come")
-    ask.add_argument("--virtual", type=float, default=15.0,
-                     help="minutes of troubles (%(default)s)")
+    ask.add_argument("--virtual", type=float, metavar="MINUTES",
+                     help=f"minutes of troubles ({VIRTUAL:.0f}; with --planted {SHORT:.0f})")
     ask.add_argument("--controller", default=str(TOP / "crates/mlb_controller/out/mlb_controller"))
     ask.add_argument("--speaker", default=str(TOP / "crates/mlb_speaker/out/mlb_speaker"))
     ask.add_argument("--bridge", default=str(TOP / "bridge"))
@@ -67,7 +73,9 @@ def words(given: Sequence[str]) -> argparse.Namespace:
     ask.add_argument("--renew", action="store_true", help="writes them anew")
     ask.add_argument("--verbose", action="store_true")
     ask.add_argument("--stop", action="store_true", help="end at the first difference")
-    return ask.parse_args(given)
+    options = ask.parse_args(given)
+    options.virtual = options.virtual or (SHORT if options.planted else VIRTUAL)
+    return options
 
 
 def begun(work: Callable[[], object]) -> tuple[int, IO[str]]:
@@ -230,14 +238,17 @@ def kind_of(told: "Result") -> str:
 
 def planned(asked: "Asked") -> list[Any]:
     """All troubles of a history."""
+    import history
     import speaker_history
     import troubles
     from virtual import World
     if asked.troubles is not None:
         return asked.troubles
-    all_kinds = speaker_history.KINDS if asked.mode == "speakers" else troubles.KINDS
+    is_of_speakers, world = asked.mode == "speakers", World(asked.seed)
+    all_kinds = speaker_history.KINDS if is_of_speakers else troubles.KINDS
     kinds = [kind for kind in asked.kinds or all_kinds if kind not in asked.without]
-    return troubles.drawn(World(asked.seed).stream("plan", False), asked.seconds, kinds)
+    has_few = not is_of_speakers and history.has_few(world)
+    return troubles.drawn(world.stream("plan", False), asked.seconds, kinds, not has_few)
 
 
 def shrunk(runner: Runner, asked: "Asked") -> "Asked":
@@ -269,19 +280,20 @@ def shrunk(runner: Runner, asked: "Asked") -> "Asked":
 
 
 class Report:
-    """Counts what came of the histories, and tells of differences."""
+    """Counts what came of the histories, and tells of differences, and now and then how far it
+    came."""
 
     def __init__(self) -> None:
+        self.begun = self.told = time.monotonic()
         self.found = collections.Counter[str]()
         self.troubles = collections.Counter[str]()
         self.befell = collections.Counter[str]()
         self.histories = self.ends = self.changes = 0
-        self.hours = self.processor = 0.0
+        self.hours = 0.0
 
     def add(self, told: "Result") -> None:
         self.histories += 1
         self.hours += told.at / 3600
-        self.processor += told.processor
         self.ends += told.ends
         self.changes += told.changes
         self.troubles.update(told.troubles)
@@ -294,20 +306,41 @@ class Report:
             self.found[kind_of(told)] += 1
             at = f"at {told.at:.1f} s, {told.processor:.1f} s of processor, hash {told.hash}"
             print(f"seed {told.seed} {at}:", *told.wrong, sep="\n  ", flush=True)
+        if time.monotonic() >= self.told + EACH:
+            self.told = time.monotonic()
+            self.tell()
 
     def tell(self) -> None:
-        print(f"{self.histories} histories, {self.hours:.1f} virtual hours, {self.ends} ends of "
-              f"bridges, {self.changes} changes in {self.processor / 60:.1f} minutes of processor; "
-              f"{dict(self.befell)}; {dict(self.troubles)}; "
-              f"{dict(self.found) or 'no difference'}", flush=True)
+        """A line of figures, as docs/MEASURED.md has them. The seconds of the processor are those
+        of all processes that have ended, the programs too."""
+        befell, spent = self.befell, spent_so_far()
+        kills, cuts = befell["bridges killed"] + befell["programs killed"], befell["cuts"]
+        wrong = ", ".join(f"{count} {kind}" for kind, count in self.found.items())
+        print(f"{(time.monotonic() - self.begun) / 60:.0f} min: {self.histories} histories, "
+              f"{self.hours:.1f} virtual hours, {kills:,} kills ({befell['bridges killed']:,} of "
+              f"bridges, {befell['programs killed']:,} of programs; "
+              f"{befell['ends with a put out']:,} with a put out), {cuts:,} cuts, {self.ends:,} "
+              f"ends of bridges, {befell['take-overs']:,} take-overs, {befell['puts']:,} puts, "
+              f"{self.changes:,} changes; {spent:,.0f} s of processor, "
+              f"{60 * (kills + cuts) / max(1.0, spent):,.0f} kills and cuts a minute of it: "
+              f"{wrong or 'no difference'}", flush=True)
+
+
+def spent_so_far() -> float:
+    """Seconds of the processor of this process, and of those that it waited for, with theirs."""
+    return sum(os.times()[:4])
 
 
 def seeds(options: argparse.Namespace) -> Iterator[int]:
     """One after the other, for as long as is asked."""
-    until = time.monotonic() + 60 * options.minutes
+    until, begun = time.monotonic() + 60 * options.minutes, spent_so_far()
     for seed in itertools.count(options.seed):
-        is_over = (seed >= options.seed + options.histories if options.histories
-                   else time.monotonic() >= until)
+        if options.histories:
+            is_over = seed >= options.seed + options.histories
+        elif options.processor:
+            is_over = spent_so_far() - begun >= 60 * options.processor
+        else:
+            is_over = time.monotonic() >= until
         if is_over:
             return
         yield seed
@@ -323,6 +356,7 @@ def run_seeds(options: argparse.Namespace, runner: Runner) -> int:
                   f"{told.settled:.0f} s", flush=True)
         if options.stop and report.found:
             break
+    print("troubles:", ", ".join(f"{count} {kind}" for kind, count in report.troubles.items()))
     report.tell()
     return 1 if report.found else 0
 
@@ -394,9 +428,11 @@ def run_planted(options: argparse.Namespace) -> int:
     print("| Planted | Seed | Told at | As | Processor | Stored histories about it |\n"
           "|---|---|---|---|---|---|", flush=True)
     missed, running = 0, dict[IO[str], tuple[int, str]]()
+    kept = json.loads(SEEDS.read_text())
     while wanted or running:
         while wanted and len(running) < options.jobs:
-            pid, file = begun(partial(seed_of, options, wanted[0]))
+            asked = kept_seed(options, kept.get(wanted[0])) if options.check else options
+            pid, file = begun(partial(seed_of, asked, wanted[0]))
             running[file] = pid, wanted.pop(0)
         for file in select.select(list(running), [], [])[0]:
             pid, name = running.pop(file)
@@ -405,10 +441,21 @@ def run_planted(options: argparse.Namespace) -> int:
             missed += found["seed"] is None
             told = ["NOT FOUND", "", ""]
             if found["seed"] is not None:
+                kept[name] = found["seed"]
                 told = [found["seed"], f"{found['at']:.0f} s", found["how"].split()[0]]
             row = [name, *told, f"{found['spent']:.0f} s", ", ".join(f"`{one}`" for one in stories)]
             print(f"| {' | '.join(map(str, row))} |", flush=True)
+    if options.renew:
+        SEEDS.write_text(json.dumps({name: kept[name] for name in NAMES if name in kept},
+                                    indent=1) + "\n")
+    print(f"{len(kept)} of {len(NAMES)} planted faults have a seed; {missed} not found")
     return 1 if missed else 0
+
+
+def kept_seed(options: argparse.Namespace, seed: int | None) -> argparse.Namespace:
+    """Asks for the one seed that is kept of a fault; for none where none is."""
+    minutes = 0.0 if seed is None else LEAST
+    return argparse.Namespace(**{**vars(options), "seed": seed or 0, "minutes": minutes})
 
 
 def run_checks(options: argparse.Namespace, runner: Runner) -> int:
@@ -418,17 +465,22 @@ def run_checks(options: argparse.Namespace, runner: Runner) -> int:
     asked += [replace(read_history(path), name=path.stem) for path in WRITTEN]
     told = {one.name: one for one in runner.each(asked, options.jobs)}
     if options.renew:
-        hashes = {one.name: told[one.name].hash for one in asked}
+        hashes = {"python": PYTHON, **{one.name: told[one.name].hash for one in asked}}
         HASHES.write_text(json.dumps(hashes, indent=1) + "\n")
-    kept = json.loads(HASHES.read_text())
-    failed = 0
+    kept, failed = json.loads(HASHES.read_text()), 0
+    if kept["python"] != PYTHON:
+        print(f"the hashes are of Python {kept['python']}, and this is {PYTHON}: all is run twice")
+        kept = {one.name: one.hash for one in runner.each(asked, options.jobs)}
     for name, one in told.items():
+        if options.verbose:
+            print(f"{name}: {one.processor:.1f} s of processor")
         wrong = [*one.wrong, *one.surprises]
         if one.hash != kept.get(name):
             wrong.append(f"its hash is {one.hash} and was {kept.get(name)}")
         failed += bool(wrong)
         if wrong:
             print(f"FAILED {name}", *wrong, sep="\n  ")
+    print(f"{sum(one.processor for one in told.values()):.0f} s of processor")
     print(f"{len(told) - failed} passed, {failed} failed")
     return 1 if failed else 0
 

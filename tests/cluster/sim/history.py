@@ -2,7 +2,6 @@
 again. What is wrong is told by the judges of the store."""
 import asyncio
 import contextlib
-import copy
 import math
 import time
 import types
@@ -14,7 +13,7 @@ from typing import Any, TextIO
 import host
 import store as stores
 from judges import Judges
-from kinds import BY_NAME
+from kinds import BY_NAME, copied
 from lockstep import Run
 from loops import EPOCH, Machine, Process
 from operators import Operator
@@ -27,10 +26,16 @@ from virtual import World
 Json = dict[str, Any]
 Alter = Callable[[Json], Json]
 SETTLED = 900.0  # seconds of calm within which nothing may be left to be done
-OLD = 0.2  # the share of histories in which one API server begins no watch with what there is
+OLD = 0.3  # the share of histories in which an API server begins no watch with what there is; of
+# half of them none does
+FEW = 0.15  # the share of those in which users make nothing but what troubles are about
 ARRIVED = HOP_SECONDS + 60.0  # seconds of calm until nothing that was sent before still comes
 STAYS = 60.0  # and in which that stays so
 LOOK = 5.0
+# Seconds for which a controller's Lease counts, the first as it is unasked: one that is soon taken
+# over lets more happen. And until a bridge that ended is started anew.
+LEASES = (15.0, 6.0, 3.0, 3.0)
+PAUSES: tuple[tuple[float, ...], ...] = ((0.01, 0.5, 5.0, 60.0), (0.01, 0.5), (0.5, 5.0))
 LEASE = ("metallb-system", "controller")
 
 
@@ -46,7 +51,8 @@ class Asked:
     salt: int = 0
     end: float | None = None  # where it is looked no further, and nothing is asked of what is left
     troubles: list[Trouble] | None = None  # those of a written history
-    is_bare: bool = False  # users have made nothing before
+    # users have made nothing before, and what isn't told is as usual and not drawn
+    is_bare: bool = False
     guard: bool | None = None  # whether the bridge keeps the last pool's deletion back; drawn
     name: str = ""
     nodes: int | None = None  # those of a history of speakers; drawn
@@ -81,9 +87,13 @@ class History:
         host.hand_in(Simulated(world))
         note_log()
         self.is_calm = False
+        self.taken = "", 0.0  # whose node the Lease's holder is of, and since when
         self.weather = Weather()
         self.users = Users(self.store, world.stream("users", False))
-        if not asked.is_bare:
+        few = has_few(world) and not asked.is_bare
+        if few:
+            self.users.begin_spaces()
+        elif not asked.is_bare:
             self.users.begin()
         self.make_lease()
         flip = world.stream("guard", False).random() < 0.5
@@ -91,20 +101,24 @@ class History:
         self.judges = Judges(self.store, self.is_guarded)
         self.alter = alter
         self.store.on_change.append(self.changed)
-        is_old = world.stream("old server", False).random() < OLD
-        is_old = is_old if asked.old is None else asked.old
-        self.servers = [ApiServer(world, self.store, "api1", self.weather),
-                        ApiServer(world, self.store, "api2", self.weather, is_old)]
+        old = world.stream("old server", False).random()
+        is_old = old < OLD if asked.old is None else asked.old
+        self.servers = [
+            ApiServer(world, self.store, "api1", self.weather, old < OLD / 2 and not asked.is_bare),
+            ApiServer(world, self.store, "api2", self.weather, is_old)]
         draw = world.stream("machines")
         self.machines = [Machine(world, f"n{at}", draw.uniform(-30, 30), draw.uniform(0.999, 1.001))
                          for at in range(1, 4)]
         self.harm = Harm(self, asked.without)
         kinds = [kind for kind in asked.kinds or KINDS if kind not in asked.without]
         plan = world.stream("plan", False)
-        self.troubles = asked.troubles or drawn(plan, asked.seconds, kinds)
-        words = {**words, "without_pools": not self.is_guarded}
+        self.troubles = asked.troubles or drawn(plan, asked.seconds, kinds, not few)
+        pace = world.stream("pace", False)
+        words = {**words, "without_pools": not self.is_guarded,
+                 "lease_seconds": LEASES[0] if asked.is_bare else pace.choice(LEASES)}
+        pauses = PAUSES[0] if asked.is_bare else pace.choice(PAUSES)
         self.operator = Operator(world, asked.mode, self.machines, self.servers, serve, words,
-                                 self)
+                                 self, pauses)
 
     # What each run of a program is given and writes
 
@@ -114,6 +128,7 @@ class History:
     def written(self, run: Run, value: Json) -> Json:
         value = self.alter(value)
         if value["op"] == "put":
+            self.world.counts["puts"] += 1
             self.judges.emptied.put(run, value)
         elif value["op"] == "config" and value["result"] == "accepted":
             self.judges.emptied.accepted(run)
@@ -137,13 +152,33 @@ class History:
             self.store.delete(BY_NAME["Lease"], LEASE)
 
     def take_lease(self, holder: str) -> None:
-        lease = copy.deepcopy(self.store.objects[BY_NAME["Lease"]].get(LEASE))
+        lease = copied(self.store.objects[BY_NAME["Lease"]].get(LEASE))
         if lease and not self.is_calm:
             lease["spec"]["holderIdentity"] = holder
             with contextlib.suppress(stores.Refused):
                 self.store.update(BY_NAME["Lease"], LEASE, lease)
 
+    def count_turn(self, change: Any) -> None:
+        """Takes note of the Lease's changes of hands."""
+        had, has = (((thing or {}).get("spec") or {}).get("holderIdentity") or ""
+                    for thing in (change.old, change.object))
+        if has != had:
+            self.taken = has.partition("_")[0], self.world.now
+            self.world.counts["take-overs"] += bool(has)
+
+    def holder(self) -> Process | None:
+        """The bridge that has the Lease, where it still runs."""
+        node, since = self.taken
+        return next((one for one in self.operator.bridges
+                     if one.machine.name == node and one.began < since), None)
+
+    def is_vacant(self) -> bool:
+        """Whether the Lease is to be taken over."""
+        return self.holder() is None
+
     def changed(self, change: Any) -> None:
+        if change.kind.name == "Lease":
+            self.count_turn(change)
         if change.kind.name in ("Service", "IPAddressPool", "Lease"):
             thing = change.object
             status = (thing.get("status") or {}).get("loadBalancer") or {}
@@ -158,7 +193,7 @@ class History:
                 world.at(trouble.at, self.harm, trouble)
         end = asked.end or math.inf
         world.run(min(end, asked.seconds), self.judges.faults)
-        wrong, settled = self.judges.faults()[:1], 0.0
+        wrong, settled = self.judges.faults[:1], 0.0
         if not wrong and end > asked.seconds:
             self.heal()
             healed = asked.seconds
@@ -166,7 +201,7 @@ class History:
                 healed += ARRIVED
                 world.run(min(end, healed), self.judges.faults)
                 self.make_lease()
-            wrong = self.judges.faults()[:1] or self.settle()
+            wrong = self.judges.faults[:1] or self.settle()
             settled = world.now - healed
         operator = self.operator
         surprises = [line for process in (*operator.graves, *operator.bridges)
@@ -193,7 +228,7 @@ class History:
                 server.recover()
             server.see(self.store.version)
         self.weather.shares, self.weather.watches = {}, {}
-        self.weather.strips = None
+        self.weather.strips = self.weather.unmarks = None
         self.weather.next_puts.clear()
         self.weather.plans.clear()
         self.store.history = 1000
@@ -222,14 +257,19 @@ class History:
         end = min(world.now + SETTLED, self.asked.end or math.inf)
         while world.now < end:
             world.run(world.now + LOOK, self.judges.faults)
-            if faults := self.judges.faults():
-                return faults[:1]
+            if self.judges.faults:
+                return self.judges.faults[:1]
             since = None if self.left() else since or world.now
             if since and world.now - since >= STAYS:
                 return []
         if self.asked.end:
             return []
         return [f"UNSETTLED within {SETTLED:.0f} s", *self.left()]
+
+
+def has_few(world: World) -> bool:
+    """Whether users make nothing but what troubles are about."""
+    return world.stream("few", False).random() < FEW
 
 
 def new_store(world: World) -> stores.Store:

@@ -166,16 +166,15 @@ class Emptied:
 
 
 class Judges:
-    """Both judges of the store. `faults` are the texts of what is wrong."""
+    """Both judges of the store. `faults` are the texts of what is wrong, in the order in which it
+    was seen."""
 
     def __init__(self, store: Store, is_guarded: bool) -> None:
         self.store = store
         self.sharing = Judge(types.SimpleNamespace(store=store, on_watch=[]))
         store.on_put.clear()
         self.emptied = Emptied(store, self.sharing.shown, is_guarded)
-
-    def faults(self) -> list[str]:
-        return [*self.sharing.faults, *self.emptied.faults]
+        self.emptied.faults = self.faults = self.sharing.faults
 
     def doubted(self, webhook: str | None) -> list[tuple[Key, Record]]:
         """What services of the namespace of a webhook that stays down may get by puts that can't be

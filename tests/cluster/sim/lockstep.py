@@ -1,15 +1,20 @@
-"""The real program in lock-step. What the bridge writes to a lane waits here. A line is given to
-the program only once all that the one before led to was written: a line after it that is passed
-over tells when. So what the program writes is a function of the lines given, in their order, and
-that is drawn."""
+"""The real program in lock-step. What the bridge writes to it waits here. A line is given to the
+program only once all that the one before led to was written. Of a lane a line after it that is
+passed over tells when. A program without lanes, which has one thread, is done once it has read all
+and sleeps; where the bridge itself probes it, once it answers that. So what the program writes is a
+function of the lines given, in their order, and that is drawn."""
 import asyncio
+import contextlib
+import fcntl
 import json
 import os
 import random
 import select
 import shutil
+import struct
 import subprocess
 import tempfile
+import termios
 import time
 from collections import deque
 from collections.abc import Callable
@@ -19,9 +24,15 @@ from loops import Made, Process, Spawn
 
 PROBES = {"frame": b'{"type":"FRAME","interface":"","bytes":""}\n'}
 PROBE = b'{"type":"BOOKMARK","object":{"kind":"Probe"}}\n'  # of the other lanes
+TOOK = b'{"lane":"%s","n":%d,"op":"took"}\n'
 # octets that a pipe holds, and at which a writer is told to wait and to go on
 PIPE, HIGH, LOW = 65536, 65536, 16384
 REAL_SECONDS = 600.0  # of the real clock in which a program must write
+LOOKS = (5e-5, 5e-3)  # and until it is looked again whether it sleeps, at first and at most
+PROBED = b'{"fence":"listed"}\n'  # what a bridge probes by, behind another line
+ANSWERED = b'"op":"unexpected"}'  # and the end of the line that answers it
+ANSWERS = ("at", "refused", "unknown", "missing")  # to a put of a program without lanes
+PASSED_OVER = ("unexpected", "took")  # lines that aren't noted
 Json = dict[str, Any]
 
 
@@ -102,10 +113,15 @@ class Input(asyncio.Transport):
         self.run, self.closed, self.rest = run, False, b""
 
     def write(self, data: bytes | bytearray | memoryview) -> None:
-        self.rest += bytes(data)
-        if self.rest.endswith(b"\n") and not self.run.over:
-            self.run.world.after(self.run.delay(), self.run.reply, self.rest)
-            self.rest = b""
+        *lines, self.rest = (self.rest + bytes(data)).split(b"\n")
+        if self.run.over:
+            return
+        if not self.run.lanes:
+            self.run.said.append([line + b"\n" for line in lines])
+            self.run.step_soon()
+        else:
+            for line in lines:
+                self.run.world.after(self.run.delay(), self.run.reply, line + b"\n")
 
     def close(self) -> None:
         if not self.closed:
@@ -136,7 +152,8 @@ class Run(asyncio.SubprocessTransport):
         self.random: random.Random = process.world.chance(f"program of {process.name}")
         self.pid, self.input, self.last = process.machine.next_number(), Input(self), 0.0
         self.returncode: int | None = None
-        self.over = self.frozen = self.awaits_reply = self.stepping = False
+        self.over = self.frozen = self.awaits_reply = self.stepping = self.has_put_out = False
+        self.said = deque[list[bytes]]()  # what is to be given by the standard input
         self.waiters: list[asyncio.Future[int]] = []
         self.awaited: tuple[str, int] | None = None
         self.lanes: list[Lane] = []
@@ -151,7 +168,7 @@ class Run(asyncio.SubprocessTransport):
             at += 1
         self.begin(words)
         process.resources.append(self)
-        self.world.after(self.random.uniform(0.002, 0.03), self.open_next)
+        self.world.after(self.random.uniform(0.002, 0.03), self.begin_talk)
 
     def delay(self) -> float:
         return self.random.uniform(1e-4, 2e-3)
@@ -159,9 +176,9 @@ class Run(asyncio.SubprocessTransport):
     # The real process
 
     def begin(self, words: list[str]) -> None:
-        self.folder = tempfile.mkdtemp(prefix="mlb-sim-")
+        folder = tempfile.mkdtemp(prefix="mlb-sim-") if self.lanes else ""
         for lane in self.lanes:
-            words += [f"--{lane.name}-lane", f"{self.folder}/{lane.name}"]
+            words += [f"--{lane.name}-lane", f"{folder}/{lane.name}"]
             os.mkfifo(words[-1])
         pipe = subprocess.PIPE
         self.real = subprocess.Popen(words, stdin=pipe, stdout=pipe, stderr=subprocess.DEVNULL,
@@ -170,17 +187,24 @@ class Run(asyncio.SubprocessTransport):
             raise Stuck("the program has no pipes")
         self.stdin, self.stdout = self.real.stdin, self.real.stdout
         self.read = b""
+        if self.lanes:
+            self.open_lanes(folder)
+        else:
+            self.state = os.open(f"/proc/{self.real.pid}/stat", os.O_RDONLY)
+            self.first = self.line()  # it writes one before it is given any
+
+    def open_lanes(self, folder: str) -> None:
         for lane in self.lanes:
             while lane.real < 0:
                 try:
-                    lane.real = os.open(f"{self.folder}/{lane.name}", os.O_WRONLY | os.O_NONBLOCK)
+                    lane.real = os.open(f"{folder}/{lane.name}", os.O_WRONLY | os.O_NONBLOCK)
                 except OSError as fault:
                     if self.real.poll() is not None:
                         status = self.real.returncode
                         raise Stuck(f"the program ended at once: {status}") from fault
                     time.sleep(0.0002)
             os.set_blocking(lane.real, True)
-        shutil.rmtree(self.folder)
+        shutil.rmtree(folder)
 
     def line(self) -> bytes:
         """The next line that the program writes."""
@@ -196,15 +220,56 @@ class Run(asyncio.SubprocessTransport):
         line, _, self.read = self.read.partition(b"\n")
         return line + b"\n"
 
+    def sleeps(self) -> bool:
+        """Whether the program has read all that it was given, and sleeps."""
+        count, = struct.unpack("i", fcntl.ioctl(self.stdin.fileno(), termios.FIONREAD, bytes(4)))
+        return not count and os.pread(self.state, 512, 0).rpartition(b") ")[2][:1] == b"S"
+
+    def all_lines(self, is_probed: bool) -> list[bytes]:
+        """The lines that a program without lanes writes until it waits for another one, or until
+        it answers a probe."""
+        out, end = self.stdout.fileno(), time.monotonic() + REAL_SECONDS
+        is_done, pause = False, LOOKS[0]
+        while True:
+            if is_probed and ANSWERED in self.read:
+                told, answer, rest = self.read.partition(ANSWERED + b"\n")
+                if answer:
+                    self.read = rest
+                    return [line + b"\n" for line in (told + ANSWERED).split(b"\n")]
+            if select.select([out], [], [], 0 if is_done else pause)[0]:
+                more = os.read(out, 65536)
+                if not more:
+                    raise Stuck(f"ended by itself at {self.world.now:.1f} s: {self.real.wait()}")
+                self.read += more
+                pause = LOOKS[0]
+                if is_probed and ANSWERED in self.read:
+                    continue
+            elif is_done:
+                *lines, self.read = self.read.split(b"\n")
+                return [line + b"\n" for line in lines]
+            elif time.monotonic() > end:
+                raise Stuck(f"it doesn't wait for a line after {REAL_SECONDS} s")
+            else:
+                pause = min(LOOKS[1], 2 * pause)
+            is_done = self.sleeps()
+
     def finish(self) -> None:
         self.real.kill()
         self.real.wait()
         for lane in self.lanes:
             os.close(lane.real)
+        if not self.lanes:
+            os.close(self.state)
         self.stdin.close()
         self.stdout.close()
 
     # Its steps
+
+    def begin_talk(self) -> None:
+        if self.lanes:
+            self.open_next()
+        else:
+            self.pass_all()
 
     def open_next(self) -> None:
         """Opens the first pipe that isn't open; the next one only once the bridge has opened it."""
@@ -226,6 +291,10 @@ class Run(asyncio.SubprocessTransport):
 
     def step(self) -> None:
         self.stepping = False
+        if not self.lanes:
+            if self.said and not self.over and not self.frozen:
+                self.give(self.said.popleft())
+            return
         lanes = [lane for lane in self.lanes if lane.lines]
         is_ready = lanes and all(lane.is_connected for lane in self.lanes)
         if self.over or self.awaits_reply or self.frozen or not is_ready:
@@ -241,20 +310,60 @@ class Run(asyncio.SubprocessTransport):
         """Passes on what is written until the line is done with, or until a reply is awaited."""
         while True:
             line = self.line()
-            value = self.hears.written(self, json.loads(line))
+            read = json.loads(line)
+            value = self.hears.written(self, read)
             if value["op"] == "took":
                 if (value["lane"], value["n"]) == self.awaited:
                     break
-                value["n"] = (value["n"] + 1) // 2
-            line = json.dumps(value, separators=(",", ":")).encode() + b"\n"
-            if value["op"] != "took":
-                self.world.note(self.process.name, f"program: {line.decode().strip()}")
-            self.last = max(self.last, self.world.now) + self.random.uniform(1e-5, 5e-4)
-            self.world.at(self.last, self.arrive, line)
+                line = TOOK % (value["lane"].encode(), (value["n"] + 1) // 2)
+            elif value is not read:
+                line = json.dumps(value, separators=(",", ":")).encode() + b"\n"
+            self.pass_line(value["op"], line)
             if value["op"] == "put":
                 self.awaits_reply = True
                 return
         self.step_soon()
+
+    def pass_line(self, op: str, line: bytes) -> None:
+        if op not in PASSED_OVER:
+            self.world.note(self.process.name, f"program: {line.decode().strip()}")
+        self.has_put_out = self.has_put_out or op == "put"
+        self.last = max(self.last, self.world.now) + self.random.uniform(1e-5, 5e-4)
+        self.world.at(self.last, self.arrive, line)
+
+    def pass_all(self, is_probed: bool = False) -> None:
+        """Passes on what a program without lanes writes until it waits for another line."""
+        if self.over:
+            return
+        first, self.first = self.first, b""
+        for line in filter(None, (first, *self.all_lines(is_probed))):
+            read = json.loads(line)
+            value = self.hears.written(self, read)
+            if value is not read:
+                line = json.dumps(value, separators=(",", ":")).encode() + b"\n"
+            self.pass_line(value["op"], line)
+        self.step_soon()
+
+    def give(self, lines: list[bytes]) -> None:
+        """Gives a program without lanes lines by its standard input, as the bridge did."""
+        for line in lines:
+            self.note_given(line)
+        with contextlib.suppress(BrokenPipeError):  # what it wrote last tells of its end
+            os.write(self.stdin.fileno(), b"".join(lines))
+        self.pass_all(len(lines) > 1 and lines[-1] == PROBED)
+
+    def note_given(self, line: bytes) -> None:
+        value = json.loads(line)
+        told = value.get("fence")
+        if told is None:
+            self.hears.given(self, "watch", value)
+        elif told != "listed":
+            self.world.note(self.process.name, f"told: {line.decode().strip()}")
+        if self.has_put_out and told in ANSWERS:
+            self.has_put_out = False
+            version = value.get("version")
+            self.hears.replied(self, {"reply": "unknown"} if told != "at" else
+                               {"reply": "ok", "version": version})
 
     def arrive(self, line: bytes) -> None:
         if not self.over:
@@ -265,7 +374,7 @@ class Run(asyncio.SubprocessTransport):
             self.world.note(self.process.name, f"reply: {line.decode().strip()}")
             self.hears.replied(self, json.loads(line))
             os.write(self.stdin.fileno(), line)
-            self.awaits_reply = False
+            self.awaits_reply = self.has_put_out = False
             self.listen()
 
     # Its end
@@ -278,6 +387,7 @@ class Run(asyncio.SubprocessTransport):
         if self.over:
             return
         self.over, self.returncode = True, status
+        self.world.counts["ends with a put out"] += self.has_put_out
         self.hears.ended(self)
         self.finish()
         if self in self.process.resources:

@@ -53,8 +53,8 @@ class Machine:
 
 
 class Process(asyncio.AbstractEventLoop):
-    """An event loop. `resources` are told when it is killed. `fuse` is after how many more of its
-    steps it is."""
+    """An event loop, which began at a time. `resources` are told when it is killed. `fuse` is after
+    how many more of its steps it is."""
 
     def __init__(self, world: World, machine: Machine, name: str, connect: Connect,
                  spawn: Spawn) -> None:
@@ -63,6 +63,7 @@ class Process(asyncio.AbstractEventLoop):
         self.ready: deque[asyncio.Handle] = deque()
         self.waits = self.paused = self.dead = False
         self.fuse: float | None = None
+        self.began = world.now
         self.resources: list[Any] = []
         self.ended: Callable[[str], None] = lambda why: None
         self.main: asyncio.Task[object] | None = None

@@ -3,7 +3,7 @@ is there a second. `failover`: as a Deployment of one replica does, another is s
 once the first one's machine can't be reached, and a rolling update starts the new one first.
 `pair`: there are always two, as with a standby; `three`: three."""
 import argparse
-from collections.abc import Callable, Coroutine
+from collections.abc import Callable, Coroutine, Sequence
 from typing import Any
 
 from lockstep import Hears, Run, spawner
@@ -41,8 +41,9 @@ class Reaches:
 class Operator(Reaches):
     def __init__(self, world: World, mode: str, machines: list[Machine], servers: list[ApiServer],
                  serve: Callable[[argparse.Namespace], Coroutine[Any, Any, None]],
-                 options: dict[str, Any], hears: Hears) -> None:
+                 options: dict[str, Any], hears: Hears, pauses: Sequence[float]) -> None:
         super().__init__(world, servers)
+        self.pauses = pauses
         self.mode, self.machines = mode, machines
         self.serve, self.options = serve, options
         self.bridges: list[Process] = []
@@ -79,7 +80,7 @@ class Operator(Reaches):
             if process.machine.name in self.off:
                 self.world.after(chance.uniform(5, EVICTED * 2), self.start_again, None)
             else:
-                pause = chance.choice((0.01, 0.5, 5.0, 60.0)) * chance.uniform(0.5, 1.5)
+                pause = chance.choice(self.pauses) * chance.uniform(0.5, 1.5)
                 self.world.after(pause, self.start_again, process.machine)
 
     def start_again(self, machine: Machine | None) -> None:

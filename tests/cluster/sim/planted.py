@@ -26,76 +26,121 @@ class Fault(NamedTuple):
 
 FAULTS = {
     "no-fence-at-takeover": Fault(
-        (Edit("controller.py", "await self.fences.until_fenced(turn.seen.names)", "pass"),),
+        (Edit("taking.py", "name, answer = Name.of(request), await self.carrier.answer(request)",
+              "name, answer = Name.of(request), {\"fence\": \"missing\"}"),),
         ("a_put_is_held_while_another_controller_takes_over",
          "a_controller_stands_still_and_goes_on", "the_program_is_killed_while_its_put_is_held")),
-    "unnamed-put": Fault((Edit(
-        "turns.py", "self.seen.holder == self.holder and name in self.seen.names",
-        "self.seen.holder == self.holder"),)),
+    "unnamed-put": Fault(
+        (Edit("lease.py", "{NAMES: named(names), ASKED: fresh()}",
+              "{NAMES: \"[]\", ASKED: fresh()}"),
+         Edit("carrier.py", "return lease_told(self.seen)",
+              "return lease_told(self.seen) | ({\"named\": self.asked[0][\"named\"]} "
+              "if method == \"PUT\" and self.asked else {})"))),
     "names-dropped-at-takeover": Fault(
-        (Edit("turns.py", "await turn.have(reading.names, takes=True)",
-              "await turn.have((), takes=True)"),),
+        (Edit("lease.py", "{NAMES: named(names), ASKED: fresh()}",
+              "{NAMES: named(names if holder == seen.holder else ()), ASKED: fresh()}"),),
         ("a_third_takes_over_from_the_second",)),
-    "lease-taken-early": Fault(
-        (Edit("turns.py", "if self.seen.holder != self.holder:", "if False:"),),
+    "names-dropped-at-release": Fault((Edit(
+        "carrier.py", 'body_of(self.seen, "", self.seen.names, self.seconds)',
+        'body_of(self.seen, "", (), self.seconds)'),)),
+    "lost-lease-is-passed-over": Fault((Edit(
+        "fenced.py", 'raise Lost(f"{self.carrier.holder()} is the controller")', "pass"),)),
+    "lease-conflict-is-told-changed": Fault(
+        (Edit("carrier.py", "                self.told.tell(f\"{self.path}: {answer.message}\")\n",
+              "                self.told.tell(f\"{self.path}: {answer.message}\")\n"
+              "            elif self.asked:\n                wants = self.asked[0]\n"
+              "                return {\"fence\": \"lease\", \"version\": wants[\"version\"] + 1,"
+              " \"holder\": wants[\"holder\"], \"named\": wants[\"named\"]}\n"),),
         ("a_controller_is_cut_off_and_comes_back",)),
     "lease-made-by-a-bridge": Fault(
-        (Edit("turns.py", 'raise Lost(f"there is no Lease {self.path}: the manifest makes it")',
+        (Edit("carrier.py",
+              'self.told.tell(f"there is no Lease {self.path}: the manifest makes it")',
               'await self.api.request("POST", self.path.rpartition("/")[0], '
               '{"kind": "Lease", "apiVersion": "coordination.k8s.io/v1", '
-              '"metadata": {"name": LEASE}, "spec": {}}, wait=SHORT)'),),
+              '"metadata": {"name": "controller"}, "spec": {}}, wait=SHORT)'),),
         ("the_lease_is_deleted_while_a_put_is_held",)),
     "ends-without-a-lease": Fault(
-        (Edit("turns.py", "why = str(fault)", "raise"),), ("the_lease_comes_later",)),
+        (Edit("taking.py", "                await self.rest()\n            elif",
+              "                raise ValueError(\"there is no Lease\")\n            elif"),),
+        ("the_lease_comes_later",)),
     "ends-with-its-lease": Fault(
         (Edit("controller.py", "tell(lost)", "raise"),),
         ("the_lease_is_lost_while_its_names_are_fenced",)),
     "lease-asked-for-once": Fault(
-        (Edit("turns.py", "self.asked = Ask(self.seen.version, self.lease.body(self.seen, "
-              "self.holder, names))", "self.asked = Ask(self.seen.version, self.lease.body("
-              "self.seen, self.holder, names))\n            await self.lease.put(self.asked.body)"),
-         Edit("turns.py", "reading = await self.lease.put(self.asked.body) or "
-              "await self.lease.read()", "reading = await self.lease.read()")),
+        (Edit("carrier.py", "                return await self.lease(\"PUT\", self.body(request))",
+              "                if self.asked and self.asked[0] == request:\n"
+              "                    return UNKNOWN\n"
+              "                return await self.lease(\"PUT\", self.body(request))"),),
         ("a_change_of_the_lease_is_lost",)),
     "lease-not-read-again": Fault(
-        (Edit("turns.py", "await self.lease.put(self.asked.body) or await self.lease.read()",
-              "await self.lease.put(self.asked.body)"),),
+        (Edit("carrier.py", "            return REFUSED if answer.status != 200 else UNKNOWN\n"
+              "        try:", "            return UNKNOWN\n        try:"),),
         ("a_hop_sends_all_twice",)),
     "put-at-any-version": Fault((Edit(
         "puts.py", 'return {"metadata": {"resourceVersion": str(put["version"]), '
         '"annotations": notes},', 'return {"metadata": {"annotations": notes},'),)),
-    "unknown-is-told-stale": Fault(
-        (Edit("puts.py", 'UNKNOWN: Json = {"reply": "unknown"}',
-              'UNKNOWN: Json = {"reply": "stale"}'),),
-        ("answers_to_puts_are_lost",)),
-    "409-is-told-stale": Fault(
-        (Edit("puts.py", "        self.counts.unknown += 1\n",
-              "        if answer.status == 409:\n            return STALE\n"
-              "        self.counts.unknown += 1\n"),),
+    "lost-put-is-told-stored": Fault(
+        (Edit("carrier.py", "return REFUSED if answer.status else UNKNOWN",
+              "return REFUSED if answer.status else at(name.version + 1)"),),
+        ("puts_never_come",)),
+    "refused-put-is-told-stored": Fault(
+        (Edit("carrier.py", "return REFUSED if answer.status else UNKNOWN",
+              "return at(name.version + 1) if answer.status else UNKNOWN"),),
+        ("a_put_is_answered_422",)),
+    "conflict-is-told-missing": Fault(
+        (Edit("carrier.py", "return REFUSED if answer.status else UNKNOWN",
+              "return MISSING if answer.status == 409 else UNKNOWN"),),
         ("a_hop_sends_a_put_twice",)),
-    "no-fence-of-a-lost-put": Fault((Edit(
-        "puts.py", "if fault.is_unsent:", "if fault.is_unsent or fault.is_lost:"),)),
+    "unreached-service-is-told-missing": Fault((Edit(
+        "carrier.py", "            self.why = str(fault)\n            return UNKNOWN",
+        "            self.why = str(fault)\n            return MISSING"),)),
+    "service-is-told-at-a-later-version": Fault((Edit(
+        "carrier.py", "            return at(version)\n        self.why",
+        "            return at(max(version, name.version + 1))\n        self.why"),)),
+    "no-fence-of-a-put": Fault((Edit(
+        "fenced.py", "answer = await self.carrier.answer(request, self.carrier.in_time(SHORT))",
+        "answer = MISSING"),)),
     "fence-changes-nothing": Fault(
-        (Edit("fences.py", '"annotations": {FENCE: fresh()}}}', '"annotations": {FENCE: None}}}'),),
+        (Edit("services.py", '"annotations": {FENCE: fresh()}}}',
+              '"annotations": {FENCE: None}}}'),),
         ("puts_never_come",)),
     "fence-is-its-own-write": Fault(
-        (Edit("fences.py", "status, found = await api.request(\"GET\", name.path, wait=SHORT)\n"
-              "            if is_missing(status, found) or status == 200 and "
-              "version_of(found) > name.version:",
-              "status, found = await api.request(\"GET\", name.path, wait=SHORT)\n"
-              "            if is_missing(status, found):"),
-         Edit("fences.py", "self.seen(key, version_of(thing))", "pass")),
+        (Edit("carrier.py", "            return at(version)\n        self.why",
+              "            return at(version if method == \"PATCH\" else min(version, "
+              "name.version))\n        self.why"),
+         Edit("fenced.py", "for name in self.owed.of(key, version):", "for name in ():")),
         ("it_is_edited_while_its_webhook_is_down",)),
     "list-with-puts-out": Fault(
-        (Edit("fences.py", "while self.owed:", "while False:"),
-         Edit("puts.py", "while self.request and not self.request.done() or self.fences.owed:",
-              "while self.request and not self.request.done():")),
+        (Edit("fenced.py", "        while not self.is_asked:\n            await self.tell(RELIST)",
+              "        while False:\n            await self.tell(RELIST)"),
+         Edit("fenced.py", "        self.is_told.clear()\n",
+              "        if not self.is_asked:\n            return\n        self.is_told.clear()\n")),
         ("services_are_listed_anew_while_a_put_is_unfenced",)),
+    "owed-put-is-not-chased": Fault(
+        (Edit("fenced.py", "            while self.owed.are_due():", "            while False:"),),
+        ("a_webhook_is_down_for_one_service",)),
+    "a-declined-put-is-sent": Fault(
+        (Edit("carrier.py", "        if not self.refusals.holds(name):", "        if True:"),),
+        ("a_refused_put_holds_no_address",)),
+    "asked-again-is-declined": Fault((Edit(
+        "carrier.py",
+        "if not request[\"named\"] or self.asked is not None and self.asked[0] == request:",
+        "if not request[\"named\"]:"),)),
+    "shown-while-owed": Fault(
+        (Edit("fenced.py", "                await self.show_owed(event[\"type\"] == \"DELETED\", "
+              "thing)", "                pass"),),
+        ("it_is_edited_while_its_webhook_is_down",)),
     "unchanged-is-told-ok": Fault(
-        (Edit("puts.py", 'if version_of(answer.value) > put["version"]:', "if True:"),),
+        (Edit("puts.py", 'if version_of(answer.value) <= put["version"]:', "if False:"),
+         Edit("puts.py", "if not shows(answer.value, patch):", "if False:")),
         ("a_put_is_answered_at_the_old_version",)),
+    "unshown-put-is-told-ok": Fault(
+        (Edit("puts.py", "if not shows(answer.value, patch):", "if False:"),),
+        ("a_webhook_takes_the_mark_out",)),
     "no-time-for-an-answer": Fault(
-        (Edit("puts.py", "PUT_WAIT = 35.0", "PUT_WAIT = 1e9"),), ("one_put_is_never_answered",)),
+        (Edit("carrier.py", "PUT_WAIT, LEAST_WAIT = 35.0, 1.0", "PUT_WAIT, LEAST_WAIT = 1e9, 1e9"
+              ),),
+        ("one_put_is_never_answered",)),
     "refused-put-never-again": Fault(
         (Edit("refusals.py", "await self.touch(one)", "one.waits = None"),),
         ("a_webhook_is_down_for_one_service", "a_put_is_answered_500", "a_put_is_answered_403")),
@@ -113,6 +158,14 @@ FAULTS = {
     "a-deletion-is-lost": Fault((Edit(
         "watches.py", "elif watched.changes_nothing(event):",
         'elif event["type"] == "DELETED" or watched.changes_nothing(event):'),)),
+    "list-not-held": Fault((Edit(
+        "watches.py", "                hold(held, event, line)\n",
+        "                await self.give(event, line)\n"),)),
+    "pools-end-first": Fault((Edit(
+        "watches.py", "if other not in HOLD_NOTHING_BACK:", "if False:"),)),
+    "resources-of-all-namespaces": Fault((Edit(
+        "watches.py", 'own = f"/apis/metallb.io/{{}}/namespaces/{namespace}/{{}}"',
+        'own = "/apis/metallb.io/{}/{}"'),)),
     "no-list-in-pages": Fault(
         (Edit("watches.py", "if fault.status not in UNSERVED:", "if True:"),),
         ("streaming_lists_are_off",)),
@@ -124,7 +177,7 @@ FAULTS = {
         (Edit("watches.py", "watched.told = fault.status", "return"),),
         ("watches_are_refused_for_a_while",)),
     "silence-is-not-noticed": Fault(
-        (Edit("watches.py", "return self.seconds", "return 1e9"),), ("a_watch_falls_silent",)),
+        (Edit("watches.py", "SILENCE = 55.0", "SILENCE = 1e9"),), ("a_watch_falls_silent",)),
     "absent-node-stays": Fault((Edit(
         "beats.py", "return self.silent < LOST * self.pause\n\n    @property\n    def is_there",
         "return self.silent < math.inf\n\n    @property\n    def is_there"),), of_speakers=True),

@@ -9,6 +9,7 @@ from dataclasses import dataclass
 from typing import Any
 
 from kinds import BY_NAME
+from rules import HELD_AS
 from serving import END as ENDS_LIST, Faults, Handler, Selection, Stream
 from store import Refused, Store
 from virtual import World
@@ -17,12 +18,14 @@ from wires import END, RESET, Link, What
 BOOKMARK_SECONDS = 10.0
 REQUEST_SECONDS = 60.0  # in which a server may carry out a request, from when it received it
 HOP_SECONDS = 600.0  # in which a hop may bring a request that it holds, though its sender is gone
+PAGES, MOST_PAGES = 10.0, 0.5  # a page is of as many lines, and becomes too old at most so often
 WRITES = ("PATCH", "PUT", "POST", "DELETE")
 SHOWN = 100  # characters that are noted of what else is asked for
 NAMES = "metallb.io/puts-in-flight"  # the annotation of the Lease (docs/BRIDGE.md, "The fence")
 ALL_REQUESTS = ("reset", "slow", "error", "mute")  # what befalls requests that change nothing too
 Json = dict[str, Any]
 Answers = Callable[[int, Json], None]
+compact = json.JSONEncoder(separators=(",", ":")).encode
 
 
 @dataclass
@@ -37,18 +40,19 @@ class Plan:
 
 
 class Weather:
-    """What goes wrong with requests and watches, each a share of the times that it could. `strikes`
-    is how often something befalls the process whose request went wrong. `webhook` is the namespace
-    whose services can't be changed, for a webhook that is down, and `strips` that of one that takes
-    each change out; `errors` are the statuses that requests are refused by; `next_puts` the fates
-    of the next changes of a service's status, of a written history, and `plans` those of one
-    service."""
+    """What goes wrong with requests and watches, each a share of the times that it could.
+    `strikes` is how often something befalls the process whose request went wrong. `webhook` is the
+    namespace whose services can't be changed, for a webhook that is down, `strips` that of one that
+    takes each change out, and `unmarks` that of one that takes the marks out. `errors` are the
+    statuses that requests are refused by, `next_puts` the fates of the next changes of a service's
+    status, of a written history, and `plans` those of one service."""
 
     def __init__(self) -> None:
         self.shares: dict[str, float] = {}
         self.watches: dict[str, float] = {}
         self.webhook: str | None = None
         self.strips: str | None = None
+        self.unmarks: str | None = None
         self.errors, self.strikes = (500, 503, 429, 403), 0.0
         self.next_puts: list[tuple[str, float]] = []
         self.plans: dict[tuple[str, str], Plan] = {}
@@ -109,6 +113,14 @@ class Asked(Handler):
         self.answered: tuple[int, Any] | None = None
         self.watched: tuple[Any, Selection, int | None, bool] | None = None
 
+    def body(self) -> Any:
+        value, namespace = super().body(), service_of(self.path)[0]
+        if namespace and namespace == self.server.weather.unmarks and isinstance(value, dict):
+            notes = (value.get("metadata") or {}).get("annotations") or {}
+            if notes.get(HELD_AS):
+                del notes[HELD_AS]
+        return value
+
     def answer(self, code: int, body: Any) -> None:
         self.answered = code, body
 
@@ -130,6 +142,7 @@ class ApiServer:
         self.is_old, self.page = is_old, 3
         self.seen: int = store.version
         self.exchanges: list[Exchange] = []
+        self.texts: dict[str, str] = {}
         store.on_change.append(self.changed)
         world.after(world.chance(name).uniform(0, BOOKMARK_SECONDS), self.bookmarks)
 
@@ -141,6 +154,13 @@ class ApiServer:
     def changed(self, change: Any) -> None:
         chance = self.world.chance(f"{self.name} {change.kind.name} {'/'.join(change.key)}")
         self.world.after(chance.uniform(1e-3, 1e-2) + self.lag, self.see, change.version)
+
+    def text_of(self, thing: Json) -> str:
+        """A stored object as it is written. No two states of objects have one version."""
+        version = thing["metadata"]["resourceVersion"]
+        if version not in self.texts:
+            self.texts[version] = compact(thing)
+        return self.texts[version]
 
     def see(self, version: int) -> None:
         if version > self.seen:
@@ -295,12 +315,22 @@ class Exchange:
             return 500, {"kind": "Status", "message": told}
         return (200, service) if key[0] == weather.strips else None
 
+    def of_page(self) -> tuple[int, Json] | None:
+        """What a next page of a list is answered, where that became too old."""
+        share = min(MOST_PAGES, PAGES * self.server.weather.watches.get("expire", 0.0))
+        if self.link.random.random() >= share:
+            return None
+        return 410, Refused(410, "The provided continue parameter is too old").status()
+
     def carry_out(self, make: Callable[[], Asked], answer: Answers | None = None,
                   held: bool = False) -> None:
         if not self.server.up and not held:
             return
         asked = make()
-        if answered := self.by_webhook(asked.command, asked.path):
+        answered = self.by_webhook(asked.command, asked.path)
+        if "&continue=" in asked.path:
+            answered = self.of_page()
+        if answered:
             asked.answer(*answered)
         else:
             asked.serve()
@@ -319,7 +349,7 @@ class Exchange:
 
     def answer(self, code: int, body: Json) -> None:
         if not self.over:
-            data = json.dumps(body, separators=(",", ":")).encode()
+            data = compact(body).encode()
             head = (f"HTTP/1.1 {code} x\r\nContent-Type: application/json\r\n"
                     f"Content-Length: {len(data)}\r\n\r\n")
             self.link.down.send(head.encode() + data)
@@ -383,11 +413,13 @@ class Watch(Stream):
             return False
         if fault == "mute":
             self.link.is_mute = True
-        self.write({"type": type_, "object": thing})
+        told = self.server.text_of(thing)
+        self.send_line(f'{{"type":"{type_}","object":{told}}}\n')
         return True
 
     def write_error(self) -> None:
-        self.write({"type": "ERROR", "object": Refused(410, "too old resource version").status()})
+        status = compact(Refused(410, "too old resource version").status())
+        self.send_line(f'{{"type":"ERROR","object":{status}}}\n')
         self.close()
 
     def mark(self, annotations: Json) -> None:
@@ -396,10 +428,10 @@ class Watch(Stream):
         if annotations:
             metadata["annotations"] = annotations
         thing = {"kind": self.kind.name, "apiVersion": self.kind.api_version, "metadata": metadata}
-        self.write({"type": "BOOKMARK", "object": thing})
+        self.send_line(f'{{"type":"BOOKMARK","object":{compact(thing)}}}\n')
 
-    def write(self, event: Json) -> None:
-        data = json.dumps(event, separators=(",", ":")).encode() + b"\n"
+    def send_line(self, line: str) -> None:
+        data = line.encode()
         self.link.down.send(b"%x\r\n%s\r\n" % (len(data), data))
 
     def close(self) -> None:

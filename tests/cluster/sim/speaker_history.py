@@ -25,7 +25,8 @@ from virtual import World
 SETTLED = 300.0  # seconds of calm within which all is as it must be
 STAYS, LOOK, ANSWERS = 10.0, 5.0, 1.0
 MOMENT = 0.1  # seconds between two looks at who announces what
-KUBELET, PROBES, EVICTED = 10.0, 30.0, 50.0  # seconds of a kubelet's pulse, until not ready, gone
+# Seconds of a kubelet's pulse, of a probe, until not ready, until the node counts as gone
+KUBELET, PROBE, PROBES, EVICTED = 10.0, 2.0, 6.0, 50.0
 KINDS = ["kill", "crash", "freeze", "pause", "suspend", "clock", "off", "leave", "cut", "down",
          "stale", "watches", "compact", "part", "part", "alone", "alone", "router", "loss"]
 ROUTERS = {"q0": 1790, "q1": 1791}
@@ -122,7 +123,7 @@ class Kubelets:
                     self.pulse[name] = now
                     self.renew(name)
                     self.register(name)
-                if now - self.well[name] >= KUBELET:
+                if now - self.well[name] >= PROBE:
                     ready[name] = True
                 if now - self.seen[name] >= PROBES or bridge is None:
                     ready[name] = False
@@ -263,6 +264,13 @@ class SpeakerHistory:
             told = f"{change.type} {change.kind.name} {'/'.join(change.key)}"
             self.world.note("store", f"{change.version} {told}")
 
+    def holder(self) -> Process | None:
+        """No speaker has a Lease of all."""
+        return None
+
+    def is_vacant(self) -> bool:
+        return False
+
     def show_nodes(self, addresses: dict[str, str]) -> None:
         """Each node is there, with its address."""
         kind = BY_NAME["Node"]
@@ -312,8 +320,8 @@ class SpeakerHistory:
                 world.at(trouble.at, self.harm, trouble)
         self.look()
         end = asked.end or math.inf
-        world.run(min(end, asked.seconds), self.faults)
-        wrong, settled = self.faults()[:1], 0.0
+        world.run(min(end, asked.seconds), self.air.faults)
+        wrong, settled = self.air.faults[:1], 0.0
         if not wrong and end > asked.seconds:
             self.heal()
             wrong = self.settle()
@@ -327,9 +335,6 @@ class SpeakerHistory:
         return Result(world.seed, wrong, world.now, world.hash.hexdigest()[:16], world.notes,
                       self.harm.counts, self.store.version, crew.ends, surprises,
                       len(self.troubles), settled, befell=dict(world.counts))
-
-    def faults(self) -> list[str]:
-        return self.air.faults
 
     def look(self) -> None:
         self.world.after(MOMENT, self.look)
@@ -366,11 +371,11 @@ class SpeakerHistory:
         left: list[str] = []
         end = min(world.now + SETTLED, self.asked.end or math.inf)
         while world.now < end:
-            world.run(world.now + LOOK, self.faults)
+            world.run(world.now + LOOK, self.air.faults)
             host_asked = self.air.ask()
-            world.run(world.now + ANSWERS, self.faults)
-            if self.faults():
-                return self.faults()[:1]
+            world.run(world.now + ANSWERS, self.air.faults)
+            if self.air.faults:
+                return self.air.faults[:1]
             left = self.air.left(host_asked)
             since = None if left else since or world.now
             if since and world.now - since >= STAYS:

@@ -1,7 +1,7 @@
 """What goes wrong: each trouble has a time, a kind and a seed of its own, so that one can be left
 out without changing the others; or it is written, with what it says in place of the seed."""
 import contextlib
-from collections.abc import Callable
+from collections.abc import Callable, Sequence
 from random import Random
 from typing import TYPE_CHECKING, Any, NamedTuple
 
@@ -19,14 +19,20 @@ if TYPE_CHECKING:
 REQUESTS = ("reset", "lost", "slow", "error", "stored", "mute", "held", "resent")
 LONGEST = 300.0  # seconds of a trouble
 LENGTHS = (0.5, 1.5, 5.0, 15.0, 50.0, 150.0, LONGEST)
+CUTS = (0.5, 1.5, 1.5, 5.0, 5.0, 15.0, 15.0, 50.0, LONGEST)  # those for which one is cut off
 # Times the mean between two troubles. (No logarithm: its last bit may be another elsewhere.)
 GAPS = (0.05, 0.2, 0.5, 1.0, 1.5, 2.75)
+PACES, EDITS = (0.7, 2.0, 6.0, 20.0), (0.2, 0.5, 0.8, 0.95)
+# Those where somebody is killed all the time: a controller lives for some seconds from when it took
+# the Lease, in which it lists and puts.
+DENSE, FEWER, OFTEN = (0.7, 1.5, 3.0), (0.2, 0.4, 0.6), 0.85
+ENDS = ("kill", "crash", "kill", "cut", "crash")
 WATCHES = ("break", "expire", "mute")
 BOTH = (("up", "down"), ("up", "down"), ("up",), ("down",))
 STRIKES = ("kill", "cut", "pause", "off", "crash", "expire", "leave")
 KINDS = ["kill", "crash", "freeze", "pause", "suspend", "clock", "off", "roll", "cut", "down",
          "stale", "storm", "watches", "silence", "compact", "webhook", "strip", "lease", "gone",
-         "pools", "contest"]
+         "pools", "contest", "rush"]
 GONE = 0.85  # of a history's time, before which nobody deletes the Lease: nothing is done after
 PUT_FAULTS = (*["held"] * 6, *["lost", "stored", "resent", "reset", "slow", "mute"] * 2, None)
 SPACES = ("default", "team-a", "team-b")
@@ -40,16 +46,22 @@ class Trouble(NamedTuple):
     how: int | Said  # the seed of what is drawn of it, or what is written of it
 
 
-def drawn(random: Random, seconds: float, kinds: list[str]) -> list[Trouble]:
+def drawn(random: Random, seconds: float, kinds: list[str],
+          has_edits: bool = True) -> list[Trouble]:
     """The troubles of a history, in their order. Of each history some kinds are chosen, so that
-    each may come in crowds, and alone; in half of them requests go wrong, and in half of them
-    services contend, at the last just before all ceases."""
-    chosen = random.sample(kinds, random.randint(1, min(6, len(kinds))))
+    each may come in crowds, and alone; in half of them requests go wrong, in half of them services
+    contend, at the last just before all ceases, and in most of them half of what isn't an edit is
+    that somebody is killed or cut off."""
+    chosen, is_dense = random.sample(kinds, random.randint(1, min(6, len(kinds)))), False
     if "storm" in kinds and random.random() < 0.5:
         chosen += ["storm"] * len(chosen)
     if "contest" in kinds and random.random() < 0.5:
         chosen += ["contest"] * len(chosen)
-    pace, edits = random.choice((0.7, 2.0, 6.0, 20.0)), random.choice((0.2, 0.5, 0.8, 0.95))
+    if random.random() < OFTEN and set(ENDS) & set(kinds):
+        chosen += ([kind for kind in ENDS if kind in kinds] * len(chosen))[:3 * len(chosen) // 2]
+        is_dense = True
+    pace = random.choice(DENSE if is_dense else PACES)
+    edits = random.choice(FEWER if is_dense else EDITS) * has_edits
     at, found = 0.0, []
     while (at := at + pace * random.choice(GAPS) * random.uniform(0, 2)) < seconds:
         is_edit = random.random() < edits
@@ -62,9 +74,15 @@ def drawn(random: Random, seconds: float, kinds: list[str]) -> list[Trouble]:
     return sorted(found)
 
 
-def length(random: Random) -> float:
+def contested(number: int) -> Said:
+    """A pool of one address, which those have that ask for it."""
+    return custom("IPAddressPool", f"x{number}", {"addresses": [f"203.0.113.{number}/32"],
+                                                  "autoAssign": False})
+
+
+def length(random: Random, lengths: Sequence[float] = LENGTHS) -> float:
     """Seconds, from less than one to five minutes."""
-    return random.choice(LENGTHS) * random.uniform(0.5, 1)
+    return random.choice(lengths) * random.uniform(0.5, 1)
 
 
 class Harm:
@@ -90,7 +108,13 @@ class Harm:
         if self.struck and not self.struck.dead:
             return self.struck
         bridges = self.history.operator.bridges
+        if (holder := self.history.holder()) and random.random() < 0.8:
+            return holder
         return random.choice(bridges) if bridges else None
+
+    def is_early(self, random: Random) -> bool:
+        """Whether the next one is to be let take the Lease over first."""
+        return not self.struck and self.history.is_vacant() and random.random() < 0.7
 
     # Users
 
@@ -111,6 +135,8 @@ class Harm:
     def pools(self, random: Random) -> None:
         """All pools are deleted, and made anew a while later; or never, where nothing is kept back
         for that."""
+        if self.history.is_calm:
+            return
         pools = dict(self.history.store.objects[BY_NAME["IPAddressPool"]])
         for namespace, name in pools:
             self.history.store.delete(BY_NAME["IPAddressPool"], (namespace, name))
@@ -120,6 +146,19 @@ class Harm:
         for pool in pools.values():
             self.world.after(pause, self.make_pool, {**pool, "metadata": {
                 "namespace": pool["metadata"]["namespace"], "name": pool["metadata"]["name"]}})
+
+    def rush(self, random: Random) -> None:
+        """All pools are deleted just when a service was given an address, which isn't shown yet,
+        since all servers are behind."""
+        number = random.randrange(6)
+        self.tried(self.history.store.put, contested(number))
+        for server in self.history.servers:
+            server.lag = random.choice((3, 30))
+            self.world.after(40.0, setattr, server, "lag", 0.0)
+        key = random.choice(SPACES), f"z{number}"
+        self.unmake(key)
+        self.world.after(random.uniform(0, 60), self.wants, key, f"x{number}")
+        self.world.after(random.uniform(0, 60), self.pools, random)
 
     def contest(self, random: Random) -> None:
         """Two services want one address. The put of the first one meets with a fault, and soon
@@ -131,11 +170,9 @@ class Harm:
             one, two = max(one, two), min(one, two)
         first, second = (one, f"z{number}"), (two, random.choice((f"b{number}", f"b{number}",
                                                                   f"zz{number}")))
-        pool = custom("IPAddressPool", f"x{number}", {"addresses": [f"203.0.113.{number}/32"],
-                                                      "autoAssign": False})
         for key in (first, second):
             self.unmake(key)
-        self.tried(self.history.store.put, pool)
+        self.tried(self.history.store.put, contested(number))
         self.history.weather.plans[first] = Plan(
             random.choice(PUT_FAULTS), length(random) * random.choice((1, 3)),
             random.random() < 0.8, random.choice((0.0, 0.0, 0.1, 2.0, 10.0)) * random.random(),
@@ -193,13 +230,16 @@ class Harm:
     # Processes and machines
 
     def kill(self, random: Random) -> None:
+        if self.is_early(random):
+            return
         if bridge := self.a_bridge(random):
             bridge.fuse = random.choice((0, 10, 100, 1000)) * random.random() // 1
 
     def crash(self, random: Random) -> None:
-        if runs := [run for run in self.history.operator.runs if not run.over]:
-            pause = random.choice((0, 0.01, 1)) * random.random()
-            self.world.after(pause, random.choice(runs).crash)
+        bridge = None if self.is_early(random) else self.a_bridge(random)
+        runs = [run for run in self.history.operator.runs if not run.over]
+        if run := next((run for run in runs if run.process is bridge), None):
+            self.world.after(random.choice((0, 0.01, 1)) * random.random(), run.crash)
 
     def freeze(self, random: Random) -> None:
         for run in [run for run in self.history.operator.runs if not run.over]:
@@ -273,15 +313,18 @@ class Harm:
     # The network and the servers
 
     def cut(self, random: Random) -> None:
+        if self.is_early(random):
+            return
         bridge = self.a_bridge(random)
         machine = bridge.machine if bridge else random.choice(self.history.machines)
         names = [server.name for server in self.history.servers]
         names = names if self.struck or random.random() < 0.8 else names[:1]
         ways = {(name, way) for name in names for way in random.choice(BOTH)}
-        self.cut_off(machine, ways, min(LONGEST, length(random) * self.stretch))
+        self.cut_off(machine, ways, min(LONGEST, length(random, CUTS) * self.stretch))
 
     def cut_off(self, machine: Machine, ways: set[tuple[str, str]], seconds: float) -> None:
-        self.world.counts["cuts"] += 1
+        is_felt = any(bridge.machine is machine for bridge in self.history.operator.bridges)
+        self.world.counts["cuts"] += is_felt and not ways <= machine.cut
         self.world.note(machine.name, f"cut off: {sorted(ways)}")
         machine.cut |= ways
         self.world.after(seconds, self.mend, machine, ways)
@@ -332,7 +375,7 @@ class Harm:
     def compact(self, random: Random) -> None:
         store = self.history.store
         store.history = 3
-        self.world.after(length(random) / 5, setattr, store, "history", 1000)
+        self.world.after(min(8.0, length(random) / 5), setattr, store, "history", 1000)
 
     def webhook(self, random: Random) -> None:
         """A webhook for the services of one namespace is down. In half of the cases it stays so."""
@@ -342,10 +385,10 @@ class Harm:
             self.world.after(length(random), setattr, weather, "webhook", None)
 
     def strip(self, random: Random) -> None:
-        """A webhook takes each change of a service of one namespace out."""
-        weather = self.history.weather
-        weather.strips = random.choice(SPACES)
-        self.world.after(length(random), setattr, weather, "strips", None)
+        """A webhook takes each change of a service of one namespace out, or the marks alone."""
+        weather, what = self.history.weather, random.choice(("strips", "unmarks"))
+        setattr(weather, what, random.choice(SPACES))
+        self.world.after(length(random), setattr, weather, what, None)
 
     # What a written history says
 

@@ -4,7 +4,7 @@ import collections
 import hashlib
 import heapq
 import random
-from collections.abc import Callable
+from collections.abc import Callable, Sequence
 from typing import Any, TextIO
 
 
@@ -47,10 +47,11 @@ class World:
         if self.trace:
             self.trace.write(line)
 
-    def run(self, until: float, stop: Callable[[], object] = lambda: False) -> None:
-        """Lets all happen that is to happen up to a time, or until it is to stop."""
-        while self.heap and self.heap[0][0] <= until and not stop():
-            self.now, _, call, args = heapq.heappop(self.heap)
+    def run(self, until: float, faults: Sequence[str] = ()) -> None:
+        """Lets all happen that is to happen up to a time, or until there is a fault."""
+        heap, pop = self.heap, heapq.heappop
+        while heap and heap[0][0] <= until and not faults:
+            self.now, _, call, args = pop(heap)
             call(*args)
-        if not stop():
+        if not faults:
             self.now = max(self.now, until)

@@ -8,7 +8,6 @@ import sys
 import tempfile
 import time
 
-from kinds import BY_NAME
 from users import NODES
 from wire import Links, Router
 from wire_judge import Running, WireJudge
@@ -95,17 +94,6 @@ class SpeakerWorld(World):
                 continue
             if self.random.random() < 0.5 or not self.speakers:
                 self.start_speaker(node)
-
-    def last_edits(self) -> None:
-        """At the end the EndpointSlice of a service that has an address goes. The watches of slices
-        expire ahead of that, so that it shows by the lists alone."""
-        super().last_edits()
-        kind = BY_NAME["EndpointSlice"]
-        with self.store.lock:
-            slices = [key for key in self.store.objects[kind] if key in self.users.holders()]
-            if slices:
-                self.faults.expiring = [one for one in self.server.watches if one.kind == kind]
-                self.store.delete(kind, self.random.choice(slices))
 
     def slow(self) -> None:
         """Where Leases have become too short for the machine, all nodes go, and come back with

@@ -17,7 +17,7 @@ from collections.abc import Callable, Mapping, Sequence
 from followed import Followed
 from kinds import BY_NAME, Json, Kind
 from rules import record_of
-from serving import Faults, Server, Watch
+from serving import Faults, Server
 from store import Key, Store
 from store_judge import Judge
 from users import Users
@@ -204,14 +204,10 @@ class Plague(Faults):
         super().__init__(seed)
         self.stops = self.forbidden = 0.0
         self.stop: Callable[[], None] = lambda: None
-        self.expiring: list[Watch] = []  # those that expire ahead of their next event
 
     def of_change(self, verb: str, kind: Kind, _key: Key, _body: Json | None) -> str | None:
         is_put = verb == "patch/status" and kind.name == "Service"
         return "made up" if is_put and self.draw(self.forbidden, True) else None
-
-    def of_event(self, watch: Watch) -> str | None:
-        return "expires" if watch in self.expiring else super().of_event(watch)
 
     def of_put(self, agent: str, key: Key) -> str | None:
         if self.draw(self.stops, True):

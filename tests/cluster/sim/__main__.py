@@ -21,9 +21,10 @@ with its seed, and ends nothing; the status is 1 then.
 `--trace` keeps what is noted. `--shrink` leaves out troubles of the one seed as long as the same
 kind of difference stays, and writes what is left as a history to FILE. `--history` runs such a
 file, or one that is written by hand (histories.d). `--planted` plants faults (planted.py), and
-prints a table of the first seeds that find them within M minutes of a processor, and find nothing
-without them. These `--renew` keeps in planted.json, and with `--check` they alone are tried. With
---shrink, --trace or --history the fault that is named is planted for that.
+prints a table of the first histories that find them within M minutes of a processor, of the written
+ones and then of seeds, and that find nothing without them. These `--renew` keeps in planted.json,
+and with `--check` they alone are tried. With --shrink, --trace or --history the fault that is named
+is planted for that.
 
 `--check` alone runs some seeds and all written histories and compares the hashes of what was noted
 with those in hashes.json, which `--renew` writes anew: after a change of the bridge, of the

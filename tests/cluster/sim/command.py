@@ -377,9 +377,21 @@ def run_written(options: argparse.Namespace, runner: Runner) -> int:
     return 1 if told.wrong or told.surprises else 0
 
 
-def found_by(options: argparse.Namespace, name: str, first: int, spent: float,
+def tried_by(options: argparse.Namespace, first: int | str | None) -> Iterator["Asked"]:
+    """The histories that may find a planted fault: a written one, by its name, or seeds from
+    `first` on; where none is given all written ones, and then seeds."""
+    if not isinstance(first, int) and options.mode != "speakers":
+        for path in WRITTEN:
+            if first in (None, path.stem):
+                yield replace(read_history(path), name=path.stem)
+    if not isinstance(first, str):
+        for seed in itertools.count(options.seed if first is None else first):
+            yield asked_of(options, seed)
+
+
+def found_by(options: argparse.Namespace, name: str, first: int | str | None, spent: float,
              folder: str) -> dict[str, Any]:
-    """The next seed from `first` on by which a planted fault is found, before so many seconds of
+    """The next history from `first` on by which a planted fault is found, before so many seconds of
     the processor are spent."""
     from planted import FAULTS, folder_of
     bridge = folder_of(name, options.bridge, folder)
@@ -387,14 +399,14 @@ def found_by(options: argparse.Namespace, name: str, first: int, spent: float,
     runner = Runner(options, bridge, name)
     if name in FAULTS and FAULTS[name].of_speakers:
         options.mode = "speakers"
-    seed = first
-    while spent < 60 * options.minutes:
-        told = runner.one(asked_of(options, seed))
+    for asked in tried_by(options, first):
+        if spent >= 60 * options.minutes:
+            break
+        told = runner.one(asked)
         spent += told.processor
         if told.wrong or told.surprises:
-            return {"seed": seed, "spent": spent, "at": told.at,
+            return {"seed": asked.name or asked.seed, "spent": spent, "at": told.at,
                     "how": [*told.wrong, *told.surprises][0]}
-        seed += 1
     return {"seed": None, "spent": spent}
 
 
@@ -408,32 +420,35 @@ def is_well(options: argparse.Namespace, name: str, seed: int) -> bool:
     return not told.wrong and not told.surprises
 
 
-def seed_of(options: argparse.Namespace, name: str) -> dict[str, Any]:
-    """The first seed that finds the fault, and nothing without it."""
-    found: dict[str, Any] = {"seed": options.seed - 1, "spent": 0.0}
-    while found["seed"] is not None:
+def seed_of(options: argparse.Namespace, name: str, first: int | str | None) -> dict[str, Any]:
+    """The first history that finds the fault, and nothing without it (as is checked of the written
+    ones)."""
+    spent = 0.0
+    while True:
         with tempfile.TemporaryDirectory(prefix="mlb-planted-") as folder:
-            found = outcome_of(*begun(partial(found_by, options, name, found["seed"] + 1,
-                                              found["spent"], folder)))
-        if found["seed"] is None or outcome_of(
-                *begun(partial(is_well, options, name, found["seed"]))):
-            break
-    return found
+            found: dict[str, Any] = outcome_of(*begun(partial(found_by, options, name, first, spent,
+                                                              folder)))
+        seed = found["seed"]
+        if not isinstance(seed, int) or outcome_of(*begun(partial(is_well, options, name, seed))):
+            return found
+        first, spent = seed + 1, found["spent"]
 
 
 def run_planted(options: argparse.Namespace) -> int:
     """The table of docs/MEASURED.md."""
     from planted import FAULTS, NAMES
     wanted = list(NAMES if options.planted == ("all",) else options.planted)
-    print("| Planted | Seed | Told at | As | Processor | Stored histories about it |\n"
+    print("| Planted | Seed or history | Told at | As | Processor | Stored histories about it |\n"
           "|---|---|---|---|---|---|", flush=True)
     missed, running = 0, dict[IO[str], tuple[int, str]]()
     kept = json.loads(SEEDS.read_text())
     while wanted or running:
         while wanted and len(running) < options.jobs:
-            asked = kept_seed(options, kept.get(wanted[0])) if options.check else options
-            pid, file = begun(partial(seed_of, asked, wanted[0]))
-            running[file] = pid, wanted.pop(0)
+            name = wanted.pop(0)
+            asked = kept_only(options, name in kept) if options.check else options
+            first = kept.get(name) if options.check else None
+            pid, file = begun(partial(seed_of, asked, name, first))
+            running[file] = pid, name
         for file in select.select(list(running), [], [])[0]:
             pid, name = running.pop(file)
             found = outcome_of(pid, file)
@@ -452,10 +467,9 @@ def run_planted(options: argparse.Namespace) -> int:
     return 1 if missed else 0
 
 
-def kept_seed(options: argparse.Namespace, seed: int | None) -> argparse.Namespace:
-    """Asks for the one seed that is kept of a fault; for none where none is."""
-    minutes = 0.0 if seed is None else LEAST
-    return argparse.Namespace(**{**vars(options), "seed": seed or 0, "minutes": minutes})
+def kept_only(options: argparse.Namespace, is_kept: bool) -> argparse.Namespace:
+    """Asks for the one history that is kept of a fault; for none where none is."""
+    return argparse.Namespace(**{**vars(options), "minutes": LEAST * is_kept})
 
 
 def run_checks(options: argparse.Namespace, runner: Runner) -> int:

@@ -421,6 +421,10 @@ class Harm:
         if bridge := self.named(said):
             bridge.fuse = said.get("steps", 0)
 
+    def said_stop(self, said: Said) -> None:
+        if bridge := self.named(said):
+            self.history.operator.stop(bridge)
+
     def said_pause(self, said: Said) -> None:
         if bridge := self.named(said):
             bridge.pause()
@@ -458,6 +462,16 @@ class Harm:
         weather = self.history.weather
         weather.strips = said["namespace"]
         self.world.after(said["seconds"], setattr, weather, "strips", None)
+
+    def said_unmark(self, said: Said) -> None:
+        weather = self.history.weather
+        weather.unmarks = said["namespace"]
+        self.world.after(said["seconds"], setattr, weather, "unmarks", None)
+
+    def said_watches(self, said: Said) -> None:
+        weather = self.history.weather
+        weather.watches = said["shares"]
+        self.world.after(said["seconds"], setattr, weather, "watches", {})
 
     def said_edit(self, said: Said) -> None:
         self.touch((said["namespace"], said["name"]))

@@ -50,6 +50,7 @@ class Peers:
         self.given: collections.deque[tuple[int, Event]] = collections.deque()
         self.shown: dict[str, Spec] = {}
         self.labels: Labels = {}
+        self.is_shown = False  # the node itself, since the lists began
         self.in_force: dict[str, Spec] = {}
         self.tables: dict[str, Table] = {}
         self.tasks: dict[str, tuple[Session, asyncio.Task[None]]] = {}
@@ -61,7 +62,7 @@ class Peers:
         """A program begins. What the peers were told by the one before stands until this one has
         told all, or for some time."""
         self.given.clear()
-        self.shown, self.tables, self.is_whole = {}, {}, False
+        self.shown, self.tables, self.is_whole, self.is_shown = {}, {}, False, False
         if self.tasks and not self.late:
             self.late = asyncio.get_running_loop().call_later(LATE, self.end_late)
 
@@ -98,9 +99,12 @@ class Peers:
 
     def take(self, event: Event) -> None:
         if event["type"] == "ERROR":
-            self.shown = {}
+            self.shown, self.is_shown = {}, False
             return
         if event["type"] == "BOOKMARK":
+            if event["object"]["kind"] == "Node" and not self.is_shown:
+                self.labels = {}  # the list had no such node any more
+                self.settle()
             return
         kind, name = event["object"]["kind"], event["object"]["metadata"]["name"]
         is_gone = event["type"] == "DELETED"
@@ -110,6 +114,7 @@ class Peers:
             self.shown[name] = event["object"]["spec"]
         elif name == self.node:
             self.labels = {} if is_gone else event["object"]["metadata"].get("labels") or {}
+            self.is_shown = True
             self.settle()
 
     def accepted(self) -> None:

@@ -1,6 +1,5 @@
-"""The floor that tests/event_costs measures against: a Rust program that reads each line by
-serde_json (Debian packages cargo and librust-serde-json-dev), built into the folder that is
-named."""
+"""The floor that programs are measured against: a Rust program that reads each line by serde_json
+(Debian packages cargo and librust-serde-json-dev), built into the folder that is named."""
 from __future__ import annotations
 
 import pathlib

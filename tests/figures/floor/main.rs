@@ -1,5 +1,5 @@
-//! The floor of tests/event_costs: reads each line as a JSON value, as a user of serde_json would, and
-//! drops it. Built by tests/floor_program.py, outside the gate.
+//! The floor that programs are measured against: reads each line as a JSON value, as a user of
+//! serde_json would, and drops it. Built by tests/figures/floor_program.py, outside the gate.
 use std::io::BufRead;
 
 fn main() -> Result<(), Box<dyn std::error::Error>> {

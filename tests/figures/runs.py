@@ -1,7 +1,9 @@
 """Runs of a program over a file of lines, with what they cost."""
 from __future__ import annotations
 
+import collections
 import contextlib
+import json
 import os
 import pathlib
 import signal
@@ -11,6 +13,8 @@ import tempfile
 from collections.abc import Iterable, Iterator
 from dataclasses import dataclass
 from typing import IO
+
+TOP = pathlib.Path(__file__).resolve().parents[2]
 
 # Runs a program and writes its processor seconds, the kilobytes that it had at most, and its
 # status: by itself, since what a process is told to have had at most counts that of the process
@@ -27,12 +31,18 @@ os.write(told, f"{seconds} {usage.ru_maxrss} {os.waitstatus_to_exitcode(status)}
 @dataclass(frozen=True)
 class Cost:
     """What a run took: processor seconds, megabytes at most, its status (-9: it was ended), and
-    how many lines it wrote."""
+    how many lines of each `op` it wrote."""
 
     seconds: float
     megabytes: float
     status: int
-    written: int
+    ops: collections.Counter[str]
+
+
+def program_of(name: str) -> pathlib.Path:
+    """The program of this name: of the folder that PROGRAMS names, or of a gate."""
+    folder = os.environ.get("PROGRAMS")
+    return pathlib.Path(folder) / name if folder else TOP / "crates" / name / "out" / name
 
 
 @contextlib.contextmanager
@@ -42,6 +52,16 @@ def file_of(lines: Iterable[str]) -> Iterator[IO[str]]:
         file.writelines(lines)
         file.flush()
         yield file
+
+
+def op_of(line: bytes) -> str:
+    """What the line tells of: its `op`, or `response` of one that answers a review."""
+    told = json.loads(line)
+    if not isinstance(told, dict):
+        return "count"
+    if "response" in told:
+        return "allowed" if told["response"]["allowed"] else "refused"
+    return str(told.get("op"))
 
 
 def run(program: pathlib.Path, words: list[str], file: IO[str], within: float) -> Cost:
@@ -61,5 +81,5 @@ def run(program: pathlib.Path, words: list[str], file: IO[str], within: float) -
             ran.wait()
         seconds, kilobytes, status = (figures.read() or f"{within} 0 -9").split()
         output.seek(0)
-        written = sum(1 for _ in output)
-    return Cost(float(seconds), int(kilobytes) / 1024, int(status), written)
+        ops = collections.Counter(map(op_of, output) if int(status) >= 0 else ())
+    return Cost(float(seconds), int(kilobytes) / 1024, int(status), ops)

@@ -39,7 +39,7 @@ if os.environ.get("PYTHONHASHSEED") != "0":
     os.execve(sys.executable, [sys.executable, *sys.orig_argv[1:]],
               {**os.environ, "PYTHONHASHSEED": "0"})
 HERE = pathlib.Path(__file__).resolve().parent
-sys.path[:0] = [str(HERE), str(HERE.parent), str(HERE.parents[1])]
+sys.path[:0] = [str(HERE), str(HERE.parent), str(HERE.parents[1]), str(HERE.parents[1] / "deploy")]
 import command
 
 sys.exit(command.main(sys.argv[1:]))

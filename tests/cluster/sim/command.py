@@ -114,7 +114,7 @@ class Runner:
         self.bridge, self.plant = bridge, plant
         self.controller, self.speaker = options.controller, options.speaker
         for module in ("controller", "speaker", "history", "operators", "planted",
-                       "speaker_history"):
+                       "speaker_history", "allowed"):
             importlib.import_module(module)
 
     def each(self, asked: Iterable["Asked"], jobs: int = 1,
@@ -380,10 +380,12 @@ def run_written(options: argparse.Namespace, runner: Runner) -> int:
 def tried_by(options: argparse.Namespace, first: int | str | None) -> Iterator["Asked"]:
     """The histories that may find a planted fault: a written one, by its name, or seeds from
     `first` on; where none is given all written ones, and then seeds."""
-    if not isinstance(first, int) and options.mode != "speakers":
+    if not isinstance(first, int):
         for path in WRITTEN:
-            if first in (None, path.stem):
-                yield replace(read_history(path), name=path.stem)
+            asked = replace(read_history(path), name=path.stem)
+            is_of_them = (asked.mode == "speakers") == (options.mode == "speakers")
+            if first == path.stem or first is None and is_of_them:
+                yield asked
     if not isinstance(first, str):
         for seed in itertools.count(options.seed if first is None else first):
             yield asked_of(options, seed)

@@ -144,6 +144,29 @@ FAULTS = {
     "refused-put-never-again": Fault(
         (Edit("refusals.py", "await self.touch(one)", "one.waits = None"),),
         ("a_webhook_is_down_for_one_service", "a_put_is_answered_500", "a_put_is_answered_403")),
+    "refused-put-is-sent-on-and-on": Fault(
+        (Edit("carrier.py", "            fault = fault_of(answer, put, patch)\n",
+              "            while answer.status not in (200, 404, 409):\n"
+              "                await asyncio.sleep(1.0)\n"
+              "                answer = await self.api.ask(\"PATCH\", name.path + \"/status\", "
+              "patch, PATCH, SHORT)\n"
+              "            fault = fault_of(answer, put, patch)\n"),),
+        tuple(f"a_put_is_answered_{status}" for status in (400, 401, 403, 422, 429, 500, 503))),
+    "a-lost-answer-is-waited-out": Fault(
+        (Edit("carrier.py", "            fault = Fault(str(broken), is_lost=True)\n",
+              "            fault = Fault(str(broken), is_lost=True)\n"
+              "            await asyncio.sleep(65.0)\n"),),
+        ("answers_to_puts_are_lost",)),
+    "busy-server-is-asked-at-once": Fault(
+        (Edit("pacing.py", "        if answer.status in BUSY:", "        if False:"),),
+        ("the_server_is_busy",)),
+    "lost-server-is-not-told": Fault(
+        (Edit("api.py", 'LOG.warning("%s: %s%s", self.server, why, lasts)', "pass"),),
+        ("the_server_is_lost",)),
+    "older-annotations-are-passed-over": Fault(
+        (Edit("reading.py", "    older = [name for name in ASKED if OLD + name in notes and "
+              "NEW + name not in notes]", "    older: list[str] = []"),),
+        ("services_share_by_the_older_annotation",)),
     "no-guard-of-pools": Fault(
         (Edit("guard.py", "return holds and not self.is_meant", "return False"),),
         ("all_pools_are_made_anew",)),

@@ -18,7 +18,7 @@ from rules import (FROM_POOL, HELD_AS, Claims, Config, choose, compiled, labels_
 from servers import ApiServer, Weather
 from stand_ins import Simulated, note_log
 from store import MERGE, Store
-from troubles import BOTH, Harm, Trouble, drawn, length
+from troubles import BOTH, Harm, Said, Trouble, drawn, length
 from users import METALLB, Users
 from virtual import World
 
@@ -173,14 +173,40 @@ class NodeHarm(Harm):
 
     def alone(self, random: Random) -> None:
         """A node loses all others, and perhaps the API server too."""
+        node, seconds = random.choice(sorted(self.history.lan.addresses)), length(random)
+        self.isolate(node, seconds, random.random() < 0.5)
+
+    def isolate(self, node: str, seconds: float, of_servers: bool) -> None:
         names = sorted(self.history.lan.addresses)
-        node, seconds = random.choice(names), length(random)
         ways = {way for other in names if other != node for way in ((node, other), (other, node))}
         self.sever(ways, seconds)
-        if random.random() < 0.5:
+        if of_servers:
             machine = next(one for one in self.history.machines if one.name == node)
             servers = [server.name for server in self.history.servers]
             self.cut_off(machine, {(name, way) for name in servers for way in BOTH[0]}, seconds)
+
+    def freeze(self, random: Random) -> None:
+        """The program of one node stands still, or those of all."""
+        runs = [run for run in self.history.crew.runs if not run.over]
+        if runs and random.random() < 0.7:
+            self.hang(random.choice(runs), length(random))
+        else:
+            super().freeze(random)
+
+    def hang(self, run: Run, seconds: float) -> None:
+        run.freeze()
+        self.world.note(run.process.name, "its program stands still")
+        self.world.after(seconds, self.thaw, run)
+
+    def said_hang(self, said: Said) -> None:
+        """The program of a node stands still."""
+        for run in [run for run in self.history.crew.runs if not run.over]:
+            if run.process.machine.name == said["node"]:
+                self.hang(run, said["seconds"])
+
+    def said_alone(self, said: Said) -> None:
+        """A node loses all others and the API server."""
+        self.isolate(said["node"], said["seconds"], True)
 
     def sever(self, ways: set[tuple[str, str]], seconds: float) -> None:
         lan = self.history.lan
@@ -234,6 +260,7 @@ class SpeakerHistory:
                                          lambda node: words(self.words_for(node)), self)
         self.kubelets = Kubelets(world, self.store, self.crew, addresses, self.servers)
         self.air = Air(world, self.store, self.lan, self.crew, self.hops)
+        self.faults = self.weather.faults = self.air.faults
         history: Any = self
         self.harm = NodeHarm(history, asked.without)
         kinds = [kind for kind in asked.kinds or KINDS if kind not in asked.without]

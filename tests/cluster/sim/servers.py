@@ -47,17 +47,18 @@ class Plan:
 @dataclass
 class Fate:
     """What the next requests of a kind (`asked_for`) meet with, of a written history: those for the
-    service of that name, or for those resources, where one is named."""
+    service of that name, for those resources, or by that process, where one is named."""
     what: str
     plan: Plan
     times: int = 1
     name: str | None = None
     of: str | None = None
+    by: str | None = None
 
-    def applies(self, what: str, place: str) -> bool:
+    def applies(self, what: str, place: str, process: str) -> bool:
         name = service_of(place)[1]
         return (what == self.what and self.times > 0 and self.name in (None, name)
-                and self.of in (None, place.rpartition("/")[2]))
+                and self.of in (None, place.rpartition("/")[2]) and self.by in (None, process))
 
 
 class Weather:
@@ -82,12 +83,12 @@ class Weather:
         self.asked: Counter[str] = Counter()
         self.faults: list[str] = []
 
-    def planned(self, command: str, path: str, body: str) -> Plan | None:
-        """What is planned of a request."""
+    def planned(self, process: str, command: str, path: str, body: str) -> Plan | None:
+        """What is planned of a request of a process."""
         what, place = asked_for(command, path, body), path.partition("?")[0]
         self.asked[what] += 1
         for fate in self.fates:
-            if fate.applies(what, place):
+            if fate.applies(what, place, process):
                 fate.times -= 1
                 return fate.plan
         if what != "put" or '"ip"' not in body:
@@ -292,7 +293,7 @@ class Exchange:
         shares = {name: share for name, share in weather.shares.items()
                   if is_write or name in ALL_REQUESTS}
         fault, soon = drawn(shares, random), random.uniform(5e-4, 8e-3)
-        plan = weather.planned(command, path, body)
+        plan = weather.planned(self.link.process.name, command, path, body)
         if plan:
             fault = plan.fault
         if fault:

@@ -435,7 +435,8 @@ class Harm:
         plan = Plan(said["fault"], said.get("seconds"), status=said.get("status"),
                     retry_after=said.get("retry_after"))
         times = sys.maxsize if "lasts" in said else said.get("times", 1)
-        fate = Fate(said["what"], plan, times, said.get("name"), said.get("of"))
+        by = f"bridge{said['bridge']}" if "bridge" in said else None
+        fate = Fate(said["what"], plan, times, said.get("name"), said.get("of"), by)
         self.history.weather.fates.append(fate)
         if "lasts" in said:
             self.world.after(said["lasts"], setattr, fate, "times", 0)

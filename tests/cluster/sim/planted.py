@@ -240,6 +240,11 @@ HARMLESS = {
 BUILT = {"doubt-forgotten": ("a_hop_sends_a_put_twice", "answers_to_puts_are_lost")}
 
 
+def stories_of(name: str) -> tuple[str, ...]:
+    """The stored histories that are about a fault."""
+    return FAULTS[name].stories if name in FAULTS else BUILT.get(name, ())
+
+
 def folder_of(name: str, bridge: str, beside: str) -> str:
     """The folder of the bridge with that fault: a copy in a folder where it may be made."""
     if name not in FAULTS:

@@ -205,6 +205,11 @@ class NodeHarm(Harm):
             if run.process.machine.name == said["node"]:
                 self.hang(run, said["seconds"])
 
+    def said_off(self, said: Said) -> None:
+        """A node is off."""
+        if bridge := self.history.crew.of(said["node"]):
+            self.turn_off(bridge, said["seconds"])
+
     def said_alone(self, said: Said) -> None:
         """A node loses all others and the API server."""
         self.isolate(said["node"], said["seconds"], True)

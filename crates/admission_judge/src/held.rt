@@ -20,23 +20,17 @@ pub fn hold(objects: &mut ObjectSet, event: Event) -> Result<(), NoMemory>
         Event::Changed { version, object } => show(objects, version, object),
         Event::Deleted { kind, key } => {
             delete(objects, kind, &key);
-            drop(key);
             Ok(())
         }
         Event::ListEnd { group } => {
-            drop(event);
             end_list(objects, group);
             Ok(())
         }
         Event::Expired => {
-            drop(event);
             objects.expire();
             Ok(())
         }
-        Event::Members { .. } | Event::Frame { .. } | Event::Ignored => {
-            drop(event);
-            Ok(())
-        }
+        Event::Members { .. } | Event::Frame { .. } | Event::Ignored => Ok(()),
     }
 }
 

@@ -34,13 +34,9 @@ fn verdict_on(alloc: Global, objects: &ObjectSet) -> Result<Verdict, NoMemory>
     ensures { IfOk result (λ verdict. verdict ≡ verdict_on objects.now) }
 {
     match compile(alloc, objects) {
-        Ok(config) => {
-            drop(config);
-            Ok(Verdict::Allowed)
-        }
+        Ok(_) => Ok(Verdict::Allowed),
         Err(CompileFault::Refused { fault }) => {
             let message = fault_message(alloc, &fault);
-            drop(fault);
             Ok(Verdict::Refused { message: message? })
         }
         Err(CompileFault::NoMemory) => Err(NoMemory),
@@ -53,15 +49,11 @@ fn with_object(objects: &ObjectSet, object: &Object) -> Result<ObjectSet, NoMemo
 {
     let mut after = objects.copy()?;
     let Ok(object) = object.copy() else {
-        drop(after);
         return Err(NoMemory);
     };
     match after.set(object) {
         Ok(()) => Ok(after),
-        Err(_) => {
-            drop(after);
-            Err(NoMemory)
-        }
+        Err(_) => Err(NoMemory),
     }
 }
 
@@ -75,16 +67,12 @@ fn verdict_of(alloc: Global, objects: &ObjectSet, change: &Change) -> Result<Ver
         }),
         Change::Set { object } => {
             let after = with_object(objects, object)?;
-            let verdict = verdict_on(alloc, &after);
-            drop(after);
-            verdict
+            verdict_on(alloc, &after)
         }
         Change::Remove { kind, name } => {
             let mut after = objects.copy()?;
             after.remove(*kind, name);
-            let verdict = verdict_on(alloc, &after);
-            drop(after);
-            verdict
+            verdict_on(alloc, &after)
         }
     }
 }

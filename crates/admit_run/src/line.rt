@@ -28,10 +28,7 @@ fn review_in(alloc: Global, line: &Line) -> Result<Option<Review>, NoMemory>
         Err(EventFault::NoMemory) => Err(NoMemory),
         Err(EventFault::NotJson) => Ok(None),
         Err(EventFault::NotEvent) => Ok(None),
-        Err(EventFault::Field { path }) => {
-            drop(path);
-            Ok(None)
-        }
+        Err(EventFault::Field { path }) => Ok(None),
     }
 }
 
@@ -53,7 +50,6 @@ fn answer<K: Sink>(
         return Err(Halt::NoMemory);
     };
     let text = response_line(alloc, &review.uid, &verdict);
-    drop(verdict);
     let Ok(text) = text else {
         return Err(Halt::NoMemory);
     };
@@ -123,11 +119,7 @@ fn drive_found<K: Sink>(
     ensures later { K.faults out.old ≤ K.faults out.new }
 {
     match found {
-        Some(review) => {
-            let answered = answer_line(alloc, objects, &line, review, out);
-            drop(line);
-            answered
-        }
+        Some(review) => answer_line(alloc, objects, &line, review, out),
         None => hold_line(alloc, objects, line, out),
     }
 }
@@ -146,13 +138,8 @@ fn judge_line<K: Sink>(
     ensures later { K.faults out.old ≤ K.faults out.new }
 {
     match review_in(alloc, &line) {
-        Ok(found) => {
-            let taken = drive_found(alloc, objects, line, &found, out);
-            drop(found);
-            taken
-        }
+        Ok(found) => drive_found(alloc, objects, line, &found, out),
         Err(_) => {
-            drop(line);
             Err(Refusal::Halted {
                 halt: Halt::NoMemory,
             })
@@ -172,7 +159,6 @@ fn tell<K: Sink>(alloc: Global, line: &Line, out: &mut K) -> Result<(), Halt>
         return Err(Halt::NoMemory);
     };
     let text = explained_line(alloc, line.number, &explained);
-    drop(explained);
     let Ok(text) = text else {
         return Err(Halt::NoMemory);
     };
@@ -209,10 +195,6 @@ pub(crate) fn drive_line<K: Sink>(
 {
     match work {
         Work::Judging { objects } => judge_line(alloc, objects, line, out),
-        Work::Explaining => {
-            let told = tell_line(alloc, &line, out);
-            drop(line);
-            told
-        }
+        Work::Explaining => tell_line(alloc, &line, out),
     }
 }

@@ -56,7 +56,5 @@ pub fn run_admit<S: PacedSource<K>, K: Sink>(
     let Some(mut work) = work_asked(alloc, words) else {
         return Status::Usage;
     };
-    let status = run_machine(alloc, &mut work, input, out);
-    drop(work);
-    status
+    run_machine(alloc, &mut work, input, out)
 }

@@ -77,10 +77,7 @@ fn join(
 {
     let key = key_of(alloc, route)?;
     match places.get(&key) {
-        Some(place) => {
-            drop(key);
-            push_prefix(groups, *place, route.prefix)
-        }
+        Some(place) => push_prefix(groups, *place, route.prefix),
         None => begin(alloc, groups, places, key, route),
     }
 }

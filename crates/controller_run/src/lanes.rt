@@ -197,6 +197,5 @@ fn drive_item<K: Sink>(
     } = item;
     let note = take_from(core, lane, event)?;
     let told = tell_item(alloc, core, lane, number, &note, out);
-    drop(note);
     Ok(told?)
 }

@@ -32,7 +32,6 @@ fn take_line<K: Sink>(
     let event = event_of_line(alloc, line)?;
     let note = take_event(core, event)?;
     let told = tell(alloc, core, &note, out);
-    drop(note);
     Ok(told?)
 }
 
@@ -65,14 +64,12 @@ pub(crate) fn hear_line<K: Sink>(
     let reply = match reply_in(alloc, core, &line) {
         Ok(reply) => reply,
         Err(ReplyFault::NoMemory) => {
-            drop(line);
             return Err(Refusal::Halted {
                 halt: Halt::NoMemory,
             });
         }
         Err(ReplyFault::BadReply) => return Err(bad_reply(line)),
     };
-    drop(line);
     if core.answered(reply).is_err() {
         return Err(Refusal::Halted {
             halt: Halt::NoMemory,

@@ -64,7 +64,5 @@ pub fn stream_controller<S: PacedSource<K>, K: Sink>(
     let Ok(mut controller) = Controller::new(alloc, class) else {
         return Status::NoMemory;
     };
-    let status = run_machine(alloc, &mut controller, input, out);
-    drop(controller);
-    status
+    run_machine(alloc, &mut controller, input, out)
 }

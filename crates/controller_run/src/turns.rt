@@ -33,14 +33,11 @@ pub(crate) fn make_turns<K: Sink>(alloc: Global, core: &mut Core, out: &mut K) -
     'turns: while core.has_turn() {
         let turn = core.next_put()?;
         if let Err(halt) = write_turn(alloc, out, &turn) {
-            drop(turn);
             return Err(halt);
         }
         if wants_put(&turn) {
-            drop(turn);
             return Ok(());
         }
-        drop(turn);
     }
     Ok(())
 }

@@ -32,10 +32,7 @@ fn under(service: &Service, terms: Terms) -> Result<Marked, NoMemory>
             addresses,
             terms,
         }),
-        Err(NoMemory) => {
-            drop(terms);
-            Err(NoMemory)
-        }
+        Err(NoMemory) => Err(NoMemory),
     }
 }
 
@@ -134,10 +131,7 @@ pub(crate) fn check(alloc: Global, objects: &[Stored]) -> Result<(), StartFault>
 {
     let mut services = Vec::new(alloc);
     let Ok(()) = push_all_marked(alloc, &mut services, objects) else {
-        drop(services);
         return Err(StartFault::NoMemory);
     };
-    let checked = refuse(first_pair(services.as_slice()));
-    drop(services);
-    checked
+    refuse(first_pair(services.as_slice()))
 }

@@ -29,10 +29,7 @@ impl WorldState {
     {
         match self.shown(&edit) {
             Ok(shown) => self.edit_and_show(edit, shown),
-            Err(NoMemory) => {
-                drop(edit);
-                Err(NoMemory)
-            }
+            Err(NoMemory) => Err(NoMemory),
         }
     }
 
@@ -46,10 +43,7 @@ impl WorldState {
         match group_of(&edit) {
             ListGroup::Config => edit_shown(&mut self.store, &mut self.config_lane, edit, shown),
             ListGroup::Service => edit_shown(&mut self.store, &mut self.service_lane, edit, shown),
-            ListGroup::Endpoint => {
-                drop(shown);
-                edit_unseen(&mut self.store, edit)
-            }
+            ListGroup::Endpoint => edit_unseen(&mut self.store, edit),
         }
     }
 
@@ -135,10 +129,9 @@ fn with_holding(service: &Service, holding: Record) -> Result<Service, NoMemory>
     ensures { IfOk result (λ s. s ≡ with_holding holding service.now) }
 {
     let Ok(mut service) = service.copy() else {
-        drop(holding);
         return Err(NoMemory);
     };
-    drop(mem::replace(&mut service.holding, holding));
+    service.holding = holding;
     Ok(service)
 }
 
@@ -157,8 +150,6 @@ fn edit_shown(
     ensures err_lane { OnErr result (lane.new.items ≡ lane.old.items) }
 {
     if lane.reserve(1).is_err() {
-        drop(edit);
-        drop(shown);
         return Err(NoMemory);
     }
     match store.edit(edit) {
@@ -166,10 +157,7 @@ fn edit_shown(
             push_reserved(lane, shown);
             Ok(())
         }
-        Err(NoMemory) => {
-            drop(shown);
-            Err(NoMemory)
-        }
+        Err(NoMemory) => Err(NoMemory),
     }
 }
 

@@ -127,10 +127,7 @@ pub(crate) fn listing(
     let mut lane = VecDeque::new(alloc);
     match push_listing(&mut lane, store, group, order) {
         Ok(()) => Ok(lane),
-        Err(NoMemory) => {
-            drop(lane);
-            Err(NoMemory)
-        }
+        Err(NoMemory) => Err(NoMemory),
     }
 }
 

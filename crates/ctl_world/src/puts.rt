@@ -30,11 +30,7 @@ impl WorldState {
     {
         match next_put(&mut self.core)? {
             None => Ok(()),
-            Some(put) => {
-                let sent = self.send_or_stop(&put, outcome);
-                drop(put);
-                sent
-            }
+            Some(put) => self.send_or_stop(&put, outcome),
         }
     }
 
@@ -72,10 +68,7 @@ impl WorldState {
                 push_reserved(&mut self.service_lane, echo);
                 Ok(())
             }
-            Err(NoMemory) => {
-                drop(echo);
-                Err(NoMemory)
-            }
+            Err(NoMemory) => Err(NoMemory),
         }
     }
 
@@ -129,10 +122,7 @@ fn next_put(core: &mut Option<Core>) -> Result<Option<Put>, NoMemory>
     match core.next_put()? {
         Turn::Wants { put, .. } => Ok(Some(put)),
         Turn::Idle => Ok(None),
-        Turn::NoPut { key, .. } => {
-            drop(key);
-            Ok(None)
-        }
+        Turn::NoPut { key, .. } => Ok(None),
     }
 }
 
@@ -146,7 +136,6 @@ fn apply(store: &mut Store, put: Option<Put>) -> Result<(), NoMemory>
         None => Ok(()),
         Some(put) => {
             let reply = store.put(&put, Outcome::Lost { applied: true });
-            drop(put);
             let _unknown = reply?;
             Ok(())
         }

@@ -55,8 +55,6 @@ impl WorldState {
     {
         let begun = begun(alloc, &store, &class, ListOrder::Ascending);
         let Ok((config_lane, service_lane, core)) = begun else {
-            drop(store);
-            drop(class);
             return Err(NoMemory);
         };
         Ok(WorldState {
@@ -77,8 +75,8 @@ impl WorldState {
         ensures err { OnErr result (self.new ≡ self.old) }
     {
         let (config_lane, service_lane, core) = begun(self.alloc, &self.store, &self.class, order)?;
-        drop(mem::replace(&mut self.config_lane, config_lane));
-        drop(mem::replace(&mut self.service_lane, service_lane));
+        self.config_lane = config_lane;
+        self.service_lane = service_lane;
         drop(self.core.replace(core));
         Ok(())
     }
@@ -98,12 +96,9 @@ fn begun(
 {
     let core = Core::new(alloc, class.copy()?)?;
     let Ok(config_lane) = listing(alloc, store, ListGroup::Config, order) else {
-        drop(core);
         return Err(NoMemory);
     };
     let Ok(service_lane) = listing(alloc, store, ListGroup::Service, order) else {
-        drop(core);
-        drop(config_lane);
         return Err(NoMemory);
     };
     Ok((config_lane, service_lane, core))
@@ -116,7 +111,6 @@ pub(crate) fn store_of(alloc: Global, objects: ObjectList) -> Result<Store, NoMe
     let mut store = Store::new(alloc);
     for object in objects.into_vec() {
         let Ok(_set) = store.edit(Edit::Set { object }) else {
-            drop(store);
             return Err(NoMemory);
         };
     }
@@ -130,7 +124,6 @@ fn records_store(alloc: Global, objects: ObjectList) -> Result<Store, NoMemory>
     let mut store = Store::new(alloc);
     for object in objects.into_vec() {
         let Ok(_set) = store.edit(Edit::Reset { object }) else {
-            drop(store);
             return Err(NoMemory);
         };
     }
@@ -147,9 +140,6 @@ pub(crate) fn safe_store(alloc: Global, objects: ObjectList) -> Result<Store, St
     let store = records_store(alloc, objects)?;
     match check(alloc, store.list().as_slice()) {
         Ok(()) => Ok(store),
-        Err(fault) => {
-            drop(store);
-            Err(fault)
-        }
+        Err(fault) => Err(fault),
     }
 }

@@ -76,10 +76,7 @@ fn take_event(core: &mut Core, event: &Event) -> Result<(), StepFault>
 {
     let event = event.copy()?;
     match core.take(event) {
-        Ok(note) => {
-            drop(note);
-            Ok(())
-        }
+        Ok(_) => Ok(()),
         Err(TakeFault::Limit { .. }) => Err(StepFault::Limit),
         Err(TakeFault::NoMemory) => Err(StepFault::NoMemory),
     }

@@ -97,7 +97,6 @@ impl World {
         let store = match safe_store(alloc, objects) {
             Ok(store) => store,
             Err(fault) => {
-                drop(class);
                 return Err(fault);
             }
         };
@@ -166,11 +165,9 @@ impl WorldState {
         ensures err { IfErr result (λ fault. Leaves fault step self.old self.new) }
     {
         if !self.is_enabled(&step) {
-            drop(step);
             return Err(StepFault::NotEnabled);
         }
         if self.is_used_up(&step) {
-            drop(step);
             return Err(StepFault::Limit);
         }
         self.make(step)
@@ -188,26 +185,11 @@ impl WorldState {
     {
         match step {
             Step::Edit { edit } => Ok(self.edit(edit)?),
-            Step::Take { group } => {
-                drop(step);
-                self.take(group)
-            }
-            Step::Turn { outcome } => {
-                drop(step);
-                Ok(self.turn(outcome)?)
-            }
-            Step::Crash { applied } => {
-                drop(step);
-                Ok(self.crash(applied)?)
-            }
-            Step::Restart { order } => {
-                drop(step);
-                Ok(self.restart(order)?)
-            }
-            Step::Expire { group, order } => {
-                drop(step);
-                Ok(self.expire(group, order)?)
-            }
+            Step::Take { group } => self.take(group),
+            Step::Turn { outcome } => Ok(self.turn(outcome)?),
+            Step::Crash { applied } => Ok(self.crash(applied)?),
+            Step::Restart { order } => Ok(self.restart(order)?),
+            Step::Expire { group, order } => Ok(self.expire(group, order)?),
         }
     }
 }

@@ -63,10 +63,7 @@ fn event_in(alloc: Global, line: &Line) -> Result<Option<Event>, NoMemory>
     match read_event(alloc, line.bytes.as_slice()) {
         Ok(event) => Ok(Some(event)),
         Err(EventFault::NoMemory) => Err(NoMemory),
-        Err(fault) => {
-            drop(fault);
-            Ok(None)
-        }
+        Err(_) => Ok(None),
     }
 }
 
@@ -80,10 +77,7 @@ fn input_in(alloc: Global, line: &Line) -> Result<Option<Input>, NoMemory>
     match read_input(alloc, line.bytes.as_slice()) {
         Ok(input) => Ok(Some(input)),
         Err(EventFault::NoMemory) => Err(NoMemory),
-        Err(fault) => {
-            drop(fault);
-            Ok(None)
-        }
+        Err(_) => Ok(None),
     }
 }
 
@@ -165,7 +159,6 @@ fn take_arrived<K: Sink>(
 {
     let note = take_event(core, event)?;
     let told = go_on(alloc, core, fence, &note, out);
-    drop(note);
     Ok(told?)
 }
 
@@ -213,7 +206,6 @@ fn take_told<K: Sink>(
             status: refused(core, line),
         });
     };
-    drop(line);
     Ok(tell_on(alloc, core, fence, input, out)?)
 }
 
@@ -235,7 +227,6 @@ pub(crate) fn drive_line<K: Sink>(
     if takes_events(core, fence)
         && let Some(event) = event_in(alloc, &line)?
     {
-        drop(line);
         return take_arrived(alloc, core, fence, event, out);
     }
     take_told(alloc, core, fence, line, out)

@@ -130,6 +130,5 @@ fn run_started<S: PacedSource<K>, K: Sink>(
         Err(Halt::WriteFault) => Status::WriteFault,
         Err(Halt::NoMemory) => Status::NoMemory,
     };
-    drop(controller);
     status
 }

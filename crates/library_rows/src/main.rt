@@ -84,7 +84,5 @@ fn show_rows(
 fn main(rt: HostRuntime) -> Result<()> {
     let alloc = rt.alloc();
     let mut case = Case::new(alloc);
-    let outcome = show_rows(&rt, alloc, &mut case);
-    drop(case);
-    outcome
+    show_rows(&rt, alloc, &mut case)
 }

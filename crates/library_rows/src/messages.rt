@@ -50,11 +50,7 @@ fn show_parts(rt: &(impl Print + AllocGlobal), parts: &UpdateParts) -> Result<()
 
 fn show_message(rt: &(impl Print + AllocGlobal), message: &[u8]) -> Result<()> {
     match read_update(rt.alloc(), message) {
-        Ok(parts) => {
-            let shown = show_parts(rt, &parts);
-            drop(parts);
-            shown
-        }
+        Ok(parts) => show_parts(rt, &parts),
         Err(UpdateFault::NotUpdate) => Ok(println!(rt; "no update")?),
         Err(fault) => Err(fault)?,
     }
@@ -63,7 +59,5 @@ fn show_message(rt: &(impl Print + AllocGlobal), message: &[u8]) -> Result<()> {
 /// What the message in hexadecimal says.
 pub fn show_read(rt: &(impl Print + AllocGlobal), digits: &str) -> Result<()> {
     let message = hex::decode(rt.alloc(), digits.as_bytes())?;
-    let shown = show_message(rt, message.as_slice());
-    drop(message);
-    shown
+    show_message(rt, message.as_slice())
 }

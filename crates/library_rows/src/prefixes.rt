@@ -10,7 +10,6 @@ fn show_prefix(rt: &(impl Print + AllocGlobal), prefix: &Prefix) -> Result<()> {
     };
     let address = print_address(rt.alloc(), &address)?;
     let shown = print!(rt; "{address}/{}", prefix.length);
-    drop(address);
     Ok(shown?)
 }
 
@@ -33,7 +32,6 @@ pub fn show_cover(rt: &(impl Print + AllocGlobal), entry: &str) -> Result<()> {
     };
     let prefixes = cover(rt.alloc(), &span)?;
     let shown = show_prefixes(rt, prefixes.as_slice());
-    drop(prefixes);
     shown?;
     Ok(println!(rt; "")?)
 }

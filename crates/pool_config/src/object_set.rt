@@ -77,7 +77,6 @@ impl ObjectSet {
                 community,
             ),
             Object::Service(_) | Object::Namespace(_) | Object::Node(_) | Object::Slice(_) => {
-                drop(object);
                 Ok(false)
             }
         }
@@ -102,7 +101,6 @@ impl ObjectSet {
                 put_named(&mut self.communities, community.name.copy(), community)
             }
             Object::Service(_) | Object::Namespace(_) | Object::Node(_) | Object::Slice(_) => {
-                drop(object);
                 Ok(())
             }
         }

@@ -15,18 +15,13 @@ pub fn event_of_line(alloc: Global, line: Line) -> Result<Event, Refusal>
     ensures err { IfErr result (λ refusal. IsNoEvent refusal line) }
 {
     match read_event(alloc, line.bytes.as_slice()) {
-        Ok(event) => {
-            drop(line);
-            Ok(event)
-        }
+        Ok(event) => Ok(event),
         Err(EventFault::NoMemory) => {
-            drop(line);
             Err(Refusal::Halted {
                 halt: Halt::NoMemory,
             })
         }
         Err(fault) => {
-            drop(fault);
             Err(Refusal::Stopped {
                 status: Status::BadLine {
                     lane: LaneName::Input,

@@ -143,7 +143,6 @@ impl Store {
             }
             Edit::Delete { kind, key } => {
                 let is_there = self.delete(kind, &key);
-                drop(key);
                 Ok(is_there)
             }
         }
@@ -172,7 +171,6 @@ impl Store {
     {
         let stored = &self.objects.as_slice()[at];
         let Ok(holding) = copy_record(self.alloc, &stored.object) else {
-            drop(object);
             return Err(NoMemory);
         };
         set_record(&mut object, holding);

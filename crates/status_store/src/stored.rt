@@ -64,7 +64,7 @@ pub fn write_at(objects: &mut StoredList, alloc: Global, at: usize, stored: Stor
     ensures { objects.new ≡ slice_set objects.old at stored }
 {
     let mut items = mem::replace(objects, Sequence::new(alloc)).into_vec();
-    drop(mem::replace(&mut items[at], stored));
+    items[at] = stored;
     drop(mem::replace(objects, Sequence::from_vec(items)));
 }
 

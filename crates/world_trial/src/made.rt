@@ -32,15 +32,9 @@ fn turn_puts(core: &Core) -> Result<u64, NoMemory>
         ≡ (if is_some (put_in (core_turn core.now)) then 1 else 0)) }
 {
     match core.next_turn()? {
-        Turn::Wants { put, .. } => {
-            drop(put);
-            Ok(1)
-        }
+        Turn::Wants { put, .. } => Ok(1),
         Turn::Idle => Ok(0),
-        Turn::NoPut { key, .. } => {
-            drop(key);
-            Ok(0)
-        }
+        Turn::NoPut { key, .. } => Ok(0),
     }
 }
 
@@ -93,10 +87,7 @@ fn take_step(world: &mut World, step: Step) -> Result<u64, NoMemory>
 {
     match step_puts(world, &step) {
         Ok(puts) => { if make(world, step)? { Ok(puts) } else { Ok(0) } }
-        Err(NoMemory) => {
-            drop(step);
-            Err(NoMemory)
-        }
+        Err(NoMemory) => Err(NoMemory),
     }
 }
 

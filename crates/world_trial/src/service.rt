@@ -99,12 +99,9 @@ pub(crate) fn service_of(alloc: Global, y: u64, z: u64) -> Result<Service, NoMem
 {
     let key = numbered(alloc, y)?;
     let Ok(families) = FamilyList::one(alloc, Family::V4) else {
-        drop(key);
         return Err(NoMemory);
     };
     let Ok((selector, ports, share_key, pool_asked)) = asked_by(alloc, z) else {
-        drop(key);
-        drop(families);
         return Err(NoMemory);
     };
     Ok(Service {

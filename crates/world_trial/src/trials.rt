@@ -56,9 +56,7 @@ fn report_of(alloc: Global, seed: u64, steps: u32) -> Result<TrialReport, NoMemo
     ensures { IfOk result (λ report. report ≡ report_of seed steps) }
 {
     let mut world = first_world(alloc)?;
-    let report = report_after(alloc, &mut world, seed, steps);
-    drop(world);
-    report
+    report_after(alloc, &mut world, seed, steps)
 }
 
 /// Makes so many steps in a world of two pools, and tells what is stored in the end. Each step is

@@ -45,12 +45,7 @@ fn unsafe_text(alloc: Global, first: &Key, second: &Key) -> Result<String, NoMem
 fn fault_text(alloc: Global, fault: StartFault) -> Result<String, NoMemory> {
     match fault {
         StartFault::NoMemory => Err(NoMemory),
-        StartFault::Unsafe { first, second } => {
-            let text = unsafe_text(alloc, &first, &second);
-            drop(first);
-            drop(second);
-            text
-        }
+        StartFault::Unsafe { first, second } => unsafe_text(alloc, &first, &second),
     }
 }
 

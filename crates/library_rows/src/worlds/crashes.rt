@@ -189,9 +189,7 @@ fn crash_line(
     crash: Crash,
 ) -> Result<String, NoMemory> {
     let mut world = world_of(alloc, objects)?;
-    let line = line_of(alloc, &mut world, history, crash);
-    drop(world);
-    line
+    line_of(alloc, &mut world, history, crash)
 }
 
 /// A line for each place of the history and each kind of crash, where lists have this order.

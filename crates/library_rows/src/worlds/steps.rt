@@ -23,7 +23,6 @@ fn event_of(alloc: Global, line: &str) -> Result<Option<Event>, NoMemory> {
         Ok(event) => Ok(Some(event)),
         Err(fault) => {
             let lacks_memory = matches!(fault, EventFault::NoMemory);
-            drop(fault);
             if lacks_memory {
                 Err(NoMemory)
             } else {
@@ -37,20 +36,14 @@ fn edit_of(event: Event) -> Option<Edit> {
     match event {
         Event::Changed { object, .. } => Some(Edit::Set { object }),
         Event::Deleted { kind, key } => Some(Edit::Delete { kind, key }),
-        other => {
-            drop(other);
-            None
-        }
+        other => None,
     }
 }
 
 fn reset_of(event: Event) -> Option<Edit> {
     match edit_of(event) {
         Some(Edit::Set { object }) => Some(Edit::Reset { object }),
-        other => {
-            drop(other);
-            None
-        }
+        other => None,
     }
 }
 
@@ -121,10 +114,7 @@ fn step_of(alloc: Global, line: &str, order: ListOrder) -> Result<Option<Step>, 
 fn read_object(alloc: Global, line: &Text, objects: &mut Sequence<Object>) -> Result<(), NoMemory> {
     match event_of(alloc, line.as_str())? {
         Some(Event::Changed { object, .. }) => objects.push(object),
-        other => {
-            drop(other);
-            Ok(())
-        }
+        other => Ok(()),
     }
 }
 
@@ -143,10 +133,7 @@ fn objects_of(alloc: Global, lines: &[Text]) -> Result<Sequence<Object>, NoMemor
     let mut objects = Sequence::new(alloc);
     match read_objects(alloc, lines, &mut objects) {
         Ok(()) => Ok(objects),
-        Err(NoMemory) => {
-            drop(objects);
-            Err(NoMemory)
-        }
+        Err(NoMemory) => Err(NoMemory),
     }
 }
 

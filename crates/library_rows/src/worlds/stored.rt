@@ -70,9 +70,7 @@ pub fn held_text(alloc: Global, world: &World, name: &str) -> Result<String, NoM
         None => Ok(String::from_str(alloc, "down")?),
         Some(core) => {
             let key = key_of(alloc, name)?;
-            let text = record_text(alloc, core, &key);
-            drop(key);
-            text
+            record_text(alloc, core, &key)
         }
     }
 }

@@ -28,6 +28,7 @@ pub(crate) fn clashing_bgp<'a>(
 {
     let known = preferences_of(alloc, pools, bgp)?;
     let found = first_clashing(known.as_slice(), pools, bgp);
+    drop(known);
     Ok(found)
 }
 
@@ -44,6 +45,7 @@ fn preferences_of<'a>(
     let mut known = Vec::new(alloc);
     for pool in pools {
         let Ok(()) = push_made(&mut known, PoolPreferences::new(alloc, pool, bgp)) else {
+            drop(known);
             return Err(NoMemory);
         };
     }

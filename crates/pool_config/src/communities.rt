@@ -128,7 +128,9 @@ pub(crate) fn bgp_of_many_texts(
     ensures { IfOk result (λ found. option_copied found ≡ first_past 512 [] (named bgps.now)) }
 {
     let mut texts = BTreeSet::new(alloc);
-    past_texts(&mut texts, bgps)
+    let found = past_texts(&mut texts, bgps);
+    drop(texts);
+    found
 }
 
 /// Adds the advertisements' texts, up to the first one with which there are more than there may be.
@@ -177,7 +179,9 @@ pub(crate) fn bgp_of_many_large<'a>(
         ≡ first_past 128 [] (map (with_large (named communities.now)) (named bgps.now))) }
 {
     let mut texts = BTreeSet::new(alloc);
-    past_large(communities, &mut texts, bgps)
+    let found = past_large(communities, &mut texts, bgps);
+    drop(texts);
+    found
 }
 
 /// Adds the advertisements' texts of large communities, up to the first one with which there are
@@ -325,7 +329,9 @@ pub(crate) fn list_of_repeat(
     ensures { IfOk result (λ found. option_copied found ≡ first_repeat [] (named communities.now)) }
 {
     let mut names = BTreeSet::new(alloc);
-    repeat_among(&mut names, communities)
+    let found = repeat_among(&mut names, communities);
+    drop(names);
+    found
 }
 
 /// Adds the names of the lists, up to the first list with one that is there already.

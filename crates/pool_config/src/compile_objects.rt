@@ -88,7 +88,13 @@ fn compile_in_order(alloc: Global, objects: &ObjectSet) -> Result<Config, Compil
             peers,
             index,
         }),
-        Err(fault) => Err(fault),
+        Err(fault) => {
+            drop(pools);
+            drop(l2);
+            drop(bgp);
+            drop(peers);
+            Err(fault)
+        }
     }
 }
 

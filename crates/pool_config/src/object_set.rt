@@ -77,6 +77,7 @@ impl ObjectSet {
                 community,
             ),
             Object::Service(_) | Object::Namespace(_) | Object::Node(_) | Object::Slice(_) => {
+                drop(object);
                 Ok(false)
             }
         }
@@ -101,6 +102,7 @@ impl ObjectSet {
                 put_named(&mut self.communities, community.name.copy(), community)
             }
             Object::Service(_) | Object::Namespace(_) | Object::Node(_) | Object::Slice(_) => {
+                drop(object);
                 Ok(())
             }
         }

@@ -89,6 +89,8 @@ impl<'a> PoolPreferences<'a> {
         let mut v4 = Preferences::new(alloc);
         let mut v6 = Preferences::new(alloc);
         let Ok(()) = PoolPreferences::note_all(pool, bgp, &mut v4, &mut v6) else {
+            drop(v4);
+            drop(v6);
             return Err(NoMemory);
         };
         Ok(PoolPreferences { pool, v4, v6 })

@@ -6,6 +6,7 @@ pub mod Frame
 pub mod L2Fields
 pub mod Members
 pub mod Named
+pub mod Naming
 pub mod ObjectFields
 pub mod PeerFields
 pub mod PoolFields

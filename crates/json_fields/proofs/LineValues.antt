@@ -5,7 +5,7 @@ use Rattle.std.specs.Str.{is_utf8}
 use Rattle.std.proofs.lemmas.Str.{IsUtf8-from_is_utf8, is_utf8-from_IsUtf8}
 use Rattle.serde_json.specs.Data.{Data}
 use Rattle.serde_json.specs.Read.{read}
-use Rattle.json_fields.specs.Line.{value_of_line}
+use Rattle.json_values.specs.Line.{value_of_line}
 
 pub line_read : (line : List ℕ) (d : Data) → IsUtf8 line × (read line ≡ Some d) → value_of_line line ≡ Some d
 unfolding value_of_line

@@ -1,7 +1,7 @@
 //! The value of a line.
 ghost use Rattle.std.specs.Prelude.{◌≡◌, IfOk, option_map};
 ghost use Rattle.serde_json.specs.View.{view};
-ghost use Rattle.json_fields.specs.Line.{value_of_line};
+ghost use Rattle.json_values.specs.Line.{value_of_line};
 
 use mlb_base::NoMemory;
 use serde_json::Value;

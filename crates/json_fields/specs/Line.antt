@@ -1,2 +1,0 @@
--- The value of a line.
-pub use Rattle.json_values.specs.Line.{value_of_line}

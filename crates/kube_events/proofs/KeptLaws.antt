@@ -12,10 +12,11 @@ use Rattle.json_fields.specs.Alike.{Same, FoundAlike, At, ItemsAlike, ListsAlike
 use Rattle.kube_model.specs.declared.object.Kind.{Kind}
 use Rattle.kube_model.specs.declared.object.Kind.TheVariants as kinds
 use Rattle.kube_model.specs.Named.{kind_named}
-use Rattle.kube_events.specs.Event.{text_in, end_annotation, event_of}
+use Rattle.kube_events.specs.Event.{text_in, end_annotation, event_of, event_if, event_of_line}
 use Rattle.kube_events.specs.Naming.{PortsAlike, PlacesAlike, ExpressionsAlike, SelectorsAlike, AllocationsAlike, NamedValuesAlike, EndpointsAlike}
 use Rattle.kube_events.specs.Naming.{BodiesAlike, ObjectsAlike, OfKindAlike, WatchedAlike, AreWatchedAlike, LinesAlike}
 use Rattle.kube_events.proofs.NameLaws.{lines_go_by_name}
+use Rattle.json_values.specs.Line.{value_of_line}
 use Rattle.json_values.specs.Kept.{Keep, all, only, Rows, row_of, with_found, kept, kept_members}
 use Rattle.json_values.specs.Places.{metadata_rows, status_rows, object_rows, line_rows}
 
@@ -309,3 +310,12 @@ line_kept d = record {
 -- A line of which only what is read is kept is read as it is whole, with the same first fault.
 pub kept_line_is_read : (d : Data) → event_of (kept (only line_rows) d) ≡ event_of d
 kept_line_is_read d = lines_go_by_name (kept (only line_rows) d) d (line_kept d)
+
+event_kept : (found : Option Data) → event_if (option_map (kept (only line_rows)) found) ≡ event_if found
+event_kept None = refl
+event_kept (Some d) = kept_line_is_read d
+
+-- the event of a line, by what is kept of it
+pub event_of_kept : (line : List ℕ) (found : Option Data) → found ≡ option_map (kept (only line_rows)) (value_of_line line) → event_of_line line ≡ event_if found
+unfolding event_of_line
+event_of_kept line found same = sym (event_kept (value_of_line line)) ∙ ap event_if (sym same)

@@ -17,4 +17,4 @@ mod slice_fields;
 mod wanted;
 
 pub use object_fields::read_object;
-pub use reading::{read_event, read_event_with};
+pub use reading::read_event;

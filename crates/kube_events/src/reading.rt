@@ -116,19 +116,7 @@ pub fn read_event(alloc: Global, line: &[u8]) -> Result<Event, EventFault>
     ensures { GivesEvent result (event_of_line line.now) }
 {
     let mut scratch = Scratch::new(alloc);
-    read_event_with(alloc, &mut scratch, line)
-}
-
-/// The event of a line, as `read_event` reads it, with memory that is kept from line to line.
-#[tactic(auto, unfolding(crate::specs::Event::event_of_line))]
-pub fn read_event_with(
-    alloc: Global,
-    scratch: &mut Scratch,
-    line: &[u8],
-) -> Result<Event, EventFault>
-    ensures { GivesEvent result (event_of_line line.now) }
-{
-    match read_kept(alloc, scratch, line, Place::Line)? {
+    match read_kept(alloc, &mut scratch, line, Place::Line)? {
         Some(value) => event_from(alloc, &value),
         None => Err(EventFault::NotJson),
     }

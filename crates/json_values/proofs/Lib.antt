@@ -1,0 +1,3 @@
+mod Keeping
+mod Loops
+pub mod Views

@@ -3,6 +3,7 @@ pub mod CommunityFields
 pub mod Event
 pub mod Fields
 pub mod Frame
+pub mod Kept
 pub mod L2Fields
 pub mod Members
 pub mod Named

@@ -1,4 +1,4 @@
--- Lines of which only what is read is kept.
+-- A line of which only what is read is kept is read as it is whole.
 use Rattle.std.proofs.Common.{◌≡◌, ℕ, List, [], ◌∷◌, Option, Some, None, Result, Ok, Err, Ordering, Less, Equal, Greater, option_map, is_eq, is_some, refl, sym, ap, ◌∙◌, codes, option_and_then, nat_cmp}
 use Rattle.std.specs.Prelude.{⊤}
 use Rattle.std.proofs.lemmas.Map.Text.{is_eq-slice_cmp}
@@ -12,13 +12,13 @@ use Rattle.json_fields.specs.Alike.{Same, FoundAlike, At, ItemsAlike, ListsAlike
 use Rattle.kube_model.specs.declared.object.Kind.{Kind}
 use Rattle.kube_model.specs.declared.object.Kind.TheVariants as kinds
 use Rattle.kube_model.specs.Named.{kind_named}
-use Rattle.kube_events.specs.Event.{text_in, end_annotation, event_of, event_if, event_of_line}
+use Rattle.kube_events.specs.Event.{text_in, end_annotation, event_of, event_if}
 use Rattle.kube_events.specs.Naming.{PortsAlike, PlacesAlike, ExpressionsAlike, SelectorsAlike, AllocationsAlike, NamedValuesAlike, EndpointsAlike}
 use Rattle.kube_events.specs.Naming.{BodiesAlike, ObjectsAlike, OfKindAlike, WatchedAlike, AreWatchedAlike, LinesAlike}
 use Rattle.kube_events.proofs.NameLaws.{lines_go_by_name}
-use Rattle.json_values.specs.Line.{value_of_line}
 use Rattle.json_values.specs.Kept.{Keep, all, only, Rows, row_of, with_found, kept, kept_members}
 use Rattle.json_values.specs.Places.{metadata_rows, status_rows, object_rows, line_rows}
+use Rattle.kube_events.specs.Kept.{read_of_line, KeptLinesAreRead}
 
 -- ---- members
 
@@ -298,7 +298,7 @@ watched_kept (Some d) = record {
   of_kind = of_kind_kept (option_and_then kind_named (text_in (codes "kind") (kept object_keep d))) d;
 }
 
-line_kept : (d : Data) → LinesAlike (kept (only line_rows) d) d
+line_kept : (d : Data) → LinesAlike (read_of_line d) d
 line_kept d = record {
   line_type = text_kept line_rows (codes "type") d refl;
   watched = rw (get_kept line_rows object_keep (codes "object") refl d) (watched_kept (get (codes "object") d));
@@ -307,15 +307,9 @@ line_kept d = record {
   bytes = at_kept Same same_itself (codes "bytes") (only line_rows) d tt;
 }
 
--- A line of which only what is read is kept is read as it is whole, with the same first fault.
-pub kept_line_is_read : (d : Data) → event_of (kept (only line_rows) d) ≡ event_of d
-kept_line_is_read d = lines_go_by_name (kept (only line_rows) d) d (line_kept d)
+pub kept_lines_are_read : KeptLinesAreRead
+kept_lines_are_read d = lines_go_by_name (read_of_line d) d (line_kept d)
 
-event_kept : (found : Option Data) → event_if (option_map (kept (only line_rows)) found) ≡ event_if found
-event_kept None = refl
-event_kept (Some d) = kept_line_is_read d
-
--- the event of a line, by what is kept of it
-pub event_of_kept : (line : List ℕ) (found : Option Data) → found ≡ option_map (kept (only line_rows)) (value_of_line line) → event_of_line line ≡ event_if found
-unfolding event_of_line
-event_of_kept line found same = sym (event_kept (value_of_line line)) ∙ ap event_if (sym same)
+pub kept_if : (found : Option Data) → event_if (option_map read_of_line found) ≡ event_if found
+kept_if None = refl
+kept_if (Some d) = kept_lines_are_read d

@@ -2,6 +2,7 @@
 use Rattle.std.proofs.Common.{◌≡◌, ℕ, ◌+◌, ◌<◌, List, [], ◌∷◌, length, take, drop, get_or, eqb, true, false, Option, Some, None, Result, Ok, Err}
 use Rattle.std.proofs.Common.{refl, arith, Bor}
 use Rattle.std.specs.List.{position_or_len}
+use Rattle.std.proofs.lemmas.Grind.{get_or_default_zero}
 use Rattle.std.proofs.lemmas.List.Splits.{slice_split_none, slice_split_first}
 use Rattle.std.proofs.lemmas.List.Sums.{position_or_len_is}
 use Rattle.serde_json.specs.Data.{Data}
@@ -12,7 +13,7 @@ use Rattle.json_fields.specs.Reading.{◌>>=◌, Fails, member_at, where_there, 
 
 -- where no byte is a dot there is one name
 pub whole : (path : Path) → ((k : ℕ) → k < length path → eqb (get_or path k 0) 46 ≡ false) → names_of path ≡ path ∷ []
-whole path none = slice_split_none (λ c. eqb c 46) path (λ k d high. none k high)
+whole path none = slice_split_none (λ c. eqb c 46) path (λ k d high. rw (get_or_default_zero path k d high) (none k high))
 
 -- else the first name ends at the first dot
 pub at_dot : (path : Path) (at : ℕ) → at < length path → ((k : ℕ) → k < at → eqb (get_or path k 0) 46 ≡ false) → eqb (get_or path at 0) 46 ≡ true

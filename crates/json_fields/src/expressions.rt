@@ -6,8 +6,8 @@ ghost use Rattle.json_fields.specs.Expressions.{expression_of};
 use crate::fault::FieldFault;
 use crate::readers::{FromValue, list, required};
 use crate::texts::require_object;
-use kube_labels::Expression;
 use json_values::BorrowedValue;
+use kube_labels::Expression;
 use std::alloc::Global;
 
 impl FromValue for Expression {

@@ -5,12 +5,16 @@ ghost use Rattle.json_values.specs.View.{view, items_view};
 
 use crate::fault::FieldFault;
 use crate::readers::FromValue;
-use mlb_base::Sequence;
 use json_values::BorrowedValue;
+use mlb_base::Sequence;
 use std::alloc::Global;
 
 /// The item at this index. Its fault is seen from the list.
-fn item_from<T: FromValue>(alloc: Global, index: usize, value: &BorrowedValue<'_>) -> Result<T, FieldFault>
+fn item_from<T: FromValue>(
+    alloc: Global,
+    index: usize,
+    value: &BorrowedValue<'_>,
+) -> Result<T, FieldFault>
     ensures { Gives (λ x. x) result (within (item_place index) (T.reading (view value.now))) }
 {
     match T::from_value(alloc, value) {
@@ -22,7 +26,10 @@ fn item_from<T: FromValue>(alloc: Global, index: usize, value: &BorrowedValue<'_
     }
 }
 
-fn items_of<T: FromValue>(alloc: Global, values: &[BorrowedValue<'_>]) -> Result<Sequence<T>, FieldFault>
+fn items_of<T: FromValue>(
+    alloc: Global,
+    values: &[BorrowedValue<'_>],
+) -> Result<Sequence<T>, FieldFault>
     ensures { Gives (λ x. x) result (items_from T.reading 0 (items_view values.now)) }
 {
     let mut items = Sequence::new(alloc);

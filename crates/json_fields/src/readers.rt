@@ -8,9 +8,9 @@ ghost use Rattle.json_fields.specs.Reading.{required_at, labels_at, list_at, tex
 
 use crate::fault::FieldFault;
 use crate::place::find;
+use json_values::BorrowedValue;
 use kube_labels::{Labels, Text};
 use mlb_base::Sequence;
-use json_values::BorrowedValue;
 use std::alloc::Global;
 
 /// A type that a JSON value may stand for.
@@ -72,7 +72,11 @@ pub fn optional<T: FromValue>(
 
 /// The field at this path, which must be there.
 #[tactic(auto, unfolding(crate::specs::Reading::required_at))]
-pub fn required<T: FromValue>(alloc: Global, object: &BorrowedValue<'_>, path: &str) -> Result<T, FieldFault>
+pub fn required<T: FromValue>(
+    alloc: Global,
+    object: &BorrowedValue<'_>,
+    path: &str,
+) -> Result<T, FieldFault>
     ensures { Gives (λ x. x) result (required_at T.reading path.now (view object.now)) }
 {
     match optional(alloc, object, path)? {
@@ -107,7 +111,12 @@ pub fn text(alloc: Global, object: &BorrowedValue<'_>, path: &str) -> Result<Tex
 
 /// Whether the text at this path is there and is the one wanted.
 #[tactic(auto, unfolding(crate::specs::Reading::tells_at))]
-pub fn tells(alloc: Global, object: &BorrowedValue<'_>, path: &str, wanted: &str) -> Result<bool, FieldFault>
+pub fn tells(
+    alloc: Global,
+    object: &BorrowedValue<'_>,
+    path: &str,
+    wanted: &str,
+) -> Result<bool, FieldFault>
     ensures { Gives (λ x. x) result (tells_at path.now wanted.now (view object.now)) }
 {
     let text: Option<Text> = optional(alloc, object, path)?;

@@ -7,9 +7,9 @@ ghost use Rattle.json_fields.specs.Reading.{GivesIf};
 
 use crate::fault::FieldFault;
 use crate::readers::{FromValue, required};
+use json_values::BorrowedValue;
 use kube_labels::{Labels, Text};
 use mlb_base::NoMemory;
-use json_values::BorrowedValue;
 use std::alloc::Global;
 use std::collections::BTreeMap;
 
@@ -56,7 +56,11 @@ impl FromValue for Labels {
 
 /// The text at this path, which must be there and not be empty.
 #[tactic(auto, unfolding(crate::specs::Reading::name_at))]
-pub fn required_name(alloc: Global, object: &BorrowedValue<'_>, path: &str) -> Result<Text, FieldFault>
+pub fn required_name(
+    alloc: Global,
+    object: &BorrowedValue<'_>,
+    path: &str,
+) -> Result<Text, FieldFault>
     ensures { Gives (λ x. x) result (name_at path.now (view object.now)) }
 {
     let name: Text = required(alloc, object, path)?;

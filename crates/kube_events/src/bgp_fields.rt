@@ -6,9 +6,9 @@ ghost use Rattle.kube_events.specs.BgpFields.{route_spec_of, choice_spec_of, bgp
 
 use crate::fields::in_turn;
 use json_fields::{FieldFault, list, number_or, with_default};
+use json_values::BorrowedValue;
 use kube_labels::TextList;
 use kube_model::{BgpAdv, Key, LengthV4, LengthV6, SelectorTexts};
-use json_values::BorrowedValue;
 use std::alloc::Global;
 
 /// How routes are made of addresses.

@@ -5,9 +5,9 @@ ghost use Rattle.json_fields.specs.Reading.{Gives};
 ghost use Rattle.kube_events.specs.CommunityFields.{named_value_of, named_values_field};
 
 use json_fields::{FieldFault, FromValue, list, require_object, required};
+use json_values::BorrowedValue;
 use kube_labels::{NamedValues, Text};
 use mlb_base::{NoMemory, Sequence};
-use json_values::BorrowedValue;
 use std::alloc::Global;
 use std::marker::Model;
 
@@ -50,7 +50,10 @@ fn pairs_from(alloc: Global, named: Sequence<NamedValue>) -> Result<NamedValues,
 }
 
 /// The names with their values, in their order.
-pub(crate) fn named_values(alloc: Global, object: &BorrowedValue<'_>) -> Result<NamedValues, FieldFault>
+pub(crate) fn named_values(
+    alloc: Global,
+    object: &BorrowedValue<'_>,
+) -> Result<NamedValues, FieldFault>
     ensures { Gives (λ x. x) result (named_values_field (view object.now)) }
 {
     let named = list(alloc, object, "spec.communities")?;

@@ -5,9 +5,9 @@ ghost use Rattle.kube_events.specs.Frame.{bytes_of, frame_of};
 
 use hex::FromHexError;
 use json_fields::{FieldFault, FromValue, required};
+use json_values::BorrowedValue;
 use kube_model::Event;
 use mlb_base::{ByteList, Sequence};
-use json_values::BorrowedValue;
 use std::alloc::Global;
 use std::marker::Model;
 

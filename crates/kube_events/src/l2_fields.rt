@@ -6,9 +6,9 @@ ghost use Rattle.kube_events.specs.L2Fields.{l2_of, l2_with};
 
 use crate::fields::in_turn;
 use json_fields::{FieldFault, list};
+use json_values::BorrowedValue;
 use kube_labels::TextList;
 use kube_model::{Key, L2Adv, SelectorTexts};
-use json_values::BorrowedValue;
 use std::alloc::Global;
 
 /// What is read of an advertisement beside its metadata.

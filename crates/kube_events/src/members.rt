@@ -5,10 +5,10 @@ ghost use Rattle.json_fields.specs.Reading.{Gives};
 ghost use Rattle.kube_events.specs.Members.{distinct_names, members_of};
 
 use json_fields::{FieldFault, list};
+use json_values::BorrowedValue;
 use kube_labels::TextList;
 use kube_model::Event;
 use mlb_base::{NoMemory, Sequence};
-use json_values::BorrowedValue;
 use std::alloc::Global;
 use std::collections::BTreeSet;
 

@@ -5,8 +5,8 @@ ghost use Rattle.json_fields.specs.Reading.{Gives};
 ghost use Rattle.kube_events.specs.PeerFields.{peer_of, peer_with};
 
 use json_fields::{FieldFault, list, required_number};
-use kube_model::{BgpPeer, Key, SelectorTexts};
 use json_values::BorrowedValue;
+use kube_model::{BgpPeer, Key, SelectorTexts};
 use std::alloc::Global;
 
 /// What is read of a peer beside its metadata.

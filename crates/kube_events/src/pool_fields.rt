@@ -5,9 +5,9 @@ ghost use Rattle.json_fields.specs.Reading.{Gives};
 ghost use Rattle.kube_events.specs.PoolFields.{pool_of, pool_with};
 
 use json_fields::{FieldFault, list, optional, with_default};
+use json_values::BorrowedValue;
 use kube_labels::{Labels, TextList};
 use kube_model::{Allocation, Key, Pool};
-use json_values::BorrowedValue;
 use std::alloc::Global;
 
 /// What is read of a pool beside its metadata.

@@ -13,10 +13,10 @@ use ip_ranges::{AddressList, Family};
 use json_fields::{
     FieldFault, FromValue, labels, list, optional, require_object, tells, text, with_default,
 };
+use json_values::BorrowedValue;
 use kube_labels::{Labels, Text};
 use kube_model::{FamilyList, Key, Policy, PortList, Record, Service, Wanted, both};
 use mlb_base::{NoMemory, Sequence};
-use json_values::BorrowedValue;
 use std::alloc::Global;
 use std::marker::Model;
 
@@ -208,7 +208,10 @@ pub(crate) struct ServiceSpec {
     holding: Record,
 }
 
-pub(crate) fn service_spec(alloc: Global, object: &BorrowedValue<'_>) -> Result<ServiceSpec, FieldFault>
+pub(crate) fn service_spec(
+    alloc: Global,
+    object: &BorrowedValue<'_>,
+) -> Result<ServiceSpec, FieldFault>
     ensures { Gives service_with result (service_of (view object.now)) }
 {
     let asked = in_turn(notes_from(alloc, object), request_from(alloc, object));

@@ -6,9 +6,9 @@ ghost use Rattle.kube_events.specs.SliceFields.{service_named, slice_of, slice_w
 
 use crate::fields::pair_value;
 use json_fields::{FieldFault, labels, list};
+use json_values::BorrowedValue;
 use kube_labels::Text;
 use kube_model::{EndpointList, EndpointSlice, Key};
-use json_values::BorrowedValue;
 use std::alloc::Global;
 
 /// What is read of a slice beside its key.

@@ -1,5 +1,5 @@
 -- Members that go in one after another, where only those that a table names are kept.
-use Rattle.std.proofs.Common.{◌≡◌, ℕ, List, Bool, Option, Some, None, option_map, Ordering, Less, Equal, Greater, nat_cmp, is_eq, refl, sym, ap, ◌∙◌, subst}
+use Rattle.std.proofs.Common.{◌≡◌, ℕ, List, Bool, Option, Some, None, option_map, Ordering, Less, Equal, Greater, nat_cmp, is_eq, refl, sym, ap, ◌∙◌}
 use Rattle.std.proofs.lemmas.Cmp.{nat_list_cmp_total}
 use Rattle.std.proofs.lemmas.Map.Text.{is_eq-slice_cmp}
 use Rattle.std.proofs.lemmas.Slice.Eq.{bytes_eq-Decides}
@@ -142,3 +142,7 @@ kept-boolean (only rows) b = refl
 pub kept-null : (keep : Keep) → kept keep null ≡ null
 kept-null all = refl
 kept-null (only rows) = refl
+
+pub kept-no_members : (keep : Keep) → kept_of keep no_members ≡ no_members
+kept-no_members all = refl
+kept-no_members (only rows) = refl

@@ -128,22 +128,13 @@ fn read<'a>(
             if depth == 0 {
                 return Err(Fault::Invalid);
             }
-            Ok(BorrowedValue::Array(read_items(
-                alloc,
-                reader,
-                depth - 1,
-            )?))
+            Ok(BorrowedValue::Array(read_items(alloc, reader, depth - 1)?))
         }
         Token::BeginObject => {
             if depth == 0 {
                 return Err(Fault::Invalid);
             }
-            Ok(BorrowedValue::Object(read_members(
-                alloc,
-                reader,
-                place,
-                depth - 1,
-            )?))
+            Ok(BorrowedValue::Object(read_members(alloc, reader, place, depth - 1)?))
         }
     }
 }

@@ -1,10 +1,10 @@
 -- A value, level by level, and members that go in one after another.
-use Rattle.std.proofs.Common.{◌≡◌, ℕ, List, [], ◌∷◌, ◌++◌, Bool, true, false, cond, Option, Some, None, Vec, Global, Ordering, Less, Equal, Greater, nat_cmp, bytes_eq, Bor, refl, ap, ◌∙◌, rules}
+use Rattle.std.proofs.Common.{◌≡◌, ℕ, List, [], ◌∷◌, ◌++◌, Bool, true, false, cond, Some, Vec, Global, Ordering, Less, Equal, Greater, nat_cmp, bytes_eq, true≢false, Bor, refl, sym, ap, ◌∙◌, rules}
 use Rattle.std.proofs.lemmas.Slice.Eq.{bytes_eq-Decides}
 use Rattle.std.specs.Cmp.Lexicographic.{slice_cmp}
 use Rattle.std.specs.Ordering.{match_ordering}
 use Rattle.std.specs.BTreeMap.{insert_entry}
-use Rattle.serde_json.specs.Data.{Data, array, object, Members, no_members, member, put}
+use Rattle.serde_json.specs.Data.{Data, array, object, Members, no_members, put}
 use Rattle.serde_json.specs.Find.{get_member}
 use Rattle.serde_json.proofs.Views.{get_member-put, get_member-put_other}
 use Rattle.json_values.specs.View.{Name, view, items_view, put_each, distinct_view}
@@ -23,7 +23,7 @@ put_each-push (n ∷ ms) m found = put_each-push ms m (put n.0.now (view n.1) fo
 
 here_or_before : (k name : List ℕ) (d : Data) (ms : Members) (b : Bool) → bytes_eq k name ≡ b → get_member name (put k d ms) ≡ cond b (Some d) (get_member name ms)
 here_or_before k name d ms true e = rw ((bytes_eq-Decides k name).0 e) (get_member-put name d ms)
-here_or_before k name d ms false e = get_member-put_other name k d ms (λ same. absurd (cc))
+here_or_before k name d ms false e = get_member-put_other name k d ms (λ same. true≢false (sym ((bytes_eq-Decides k name).1 (sym same)) ∙ e))
 
 -- the last member of a name is the one that counts
 pub get_member-push : (name : List ℕ) (ms : List (Name × BorrowedValue)) (m : Name × BorrowedValue)

@@ -60,17 +60,10 @@ pub fn read_kept<'a>(
     let Ok(text) = simdutf8::basic::from_utf8(line) else {
         return Ok(None);
     };
-    let Ok(mut reader) = Reader::new(text, scratch) else {
-        return Err(NoMemory);
-    };
-    match read(alloc, &mut reader, place, MAX_DEPTH) {
-        Ok(value) => if reader.next().is_some() {
-            Ok(None)
-        } else {
-            Ok(Some(value))
-        },
-        Err(Fault::NoMemory) => Err(NoMemory),
+    match read_all(alloc, scratch, text, place) {
+        Ok(value) => Ok(Some(value)),
         Err(Fault::Invalid) => Ok(None),
+        Err(Fault::NoMemory) => Err(NoMemory),
     }
 }
 
@@ -83,6 +76,27 @@ pub fn read_whole<'a>(
     ensures { IfOk result (λ found. option_map view found ≡ value_of_line line.now) }
 {
     read_kept(alloc, scratch, line, Place::Whole)
+}
+
+/// The value that the whole text is.
+fn read_all<'a>(
+    alloc: Global,
+    scratch: &'a mut Scratch,
+    text: &'a str,
+    place: Place,
+) -> Result<BorrowedValue<'a>, Fault>
+    ensures ok { IfOk result (λ v. (d : Data) × (read_text text.now ≡ Some d)
+        × (view v ≡ kept (keep_at place) d)) }
+    ensures invalid { result ≡ Err Fault.Invalid → read_text text.now ≡ None }
+{
+    let Ok(mut reader) = Reader::new(text, scratch) else {
+        return Err(Fault::NoMemory);
+    };
+    let value = read(alloc, &mut reader, place, MAX_DEPTH)?;
+    if reader.next().is_some() {
+        return Err(Fault::Invalid);
+    }
+    Ok(value)
 }
 
 #[cycle(read)]
@@ -114,22 +128,13 @@ fn read<'a>(
             if depth == 0 {
                 return Err(Fault::Invalid);
             }
-            Ok(BorrowedValue::Array(read_items(
-                alloc,
-                reader,
-                depth - 1,
-            )?))
+            Ok(BorrowedValue::Array(read_items(alloc, reader, depth - 1)?))
         }
         Token::BeginObject => {
             if depth == 0 {
                 return Err(Fault::Invalid);
             }
-            Ok(BorrowedValue::Object(read_members(
-                alloc,
-                reader,
-                place,
-                depth - 1,
-            )?))
+            Ok(BorrowedValue::Object(read_members(alloc, reader, place, depth - 1)?))
         }
     }
 }

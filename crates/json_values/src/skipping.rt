@@ -18,7 +18,9 @@ pub(crate) fn skip(reader: &mut Reader<'_>, depth: usize) -> Result<(), Invalid>
 {
     let token = reader.next().ok_or(Invalid)?;
     match token {
-        Token::String(_) | Token::Bool(_) | Token::Null => Ok(()),
+        Token::String(_) => Ok(()),
+        Token::Bool(_) => Ok(()),
+        Token::Null => Ok(()),
         Token::Number(text) => match number_from(text) {
             Some(_) => Ok(()),
             None => Err(Invalid),

@@ -3,7 +3,6 @@ pub mod BareLaws
 pub mod BgpLaws
 pub mod CommunityLaws
 pub mod L2Laws
-pub mod NameLaws
 pub mod OtherLaws
 pub mod PartLaws
 pub mod PeerLaws

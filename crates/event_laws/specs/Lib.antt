@@ -4,7 +4,6 @@ pub mod BgpLines
 pub mod CommunityLines
 pub mod FieldOrder
 pub mod L2Lines
-pub mod Naming
 pub mod ObjectLines
 pub mod OtherLines
 pub mod PartOrder

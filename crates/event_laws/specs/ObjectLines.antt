@@ -3,7 +3,7 @@ use Rattle.std.specs.Prelude.{◌≡◌, ◌<◌, ◌&&◌, ℕ, List, [], ◌�
 use Rattle.std.specs.Prelude.{is_none, option_map, unwrap_or, codes, length, if◌then◌else◌}
 use Rattle.serde_json.specs.Data.{Data, string, number, unsigned, array, object, Members, member, no_members}
 use Rattle.serde_json.specs.View.{items_of}
-use Rattle.json_fields.specs.Line.{value_of_line}
+use Rattle.json_values.specs.Line.{value_of_line}
 use Rattle.kube_labels.specs.Pairs.{with_pair}
 use Rattle.kube_labels.specs.declared.expression.Expression.{Expression}
 use Rattle.kube_model.specs.declared.selector.SelectorText.{SelectorText}

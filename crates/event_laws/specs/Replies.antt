@@ -1,7 +1,7 @@
 -- The replies to puts.
 use Rattle.std.specs.Prelude.{◌≡◌, ◌↔◌, ◌<◌, ℕ, List, Some, None, codes}
 use Rattle.serde_json.specs.Data.{Data}
-use Rattle.json_fields.specs.Line.{value_of_line}
+use Rattle.json_values.specs.Line.{value_of_line}
 use Rattle.kube_model.specs.declared.put.Put.{Put}
 use Rattle.kube_model.specs.declared.reply.PutReply.TheVariants as replies
 use Rattle.kube_events.specs.Event.{text_in}

@@ -10,7 +10,7 @@ ghost use Rattle.event_laws.specs.CommunityLines.{CommunitiesAreRead};
 ghost use Rattle.event_laws.specs.FieldOrder.{FaultIsFirst, StatedFaultIsFirst};
 ghost use Rattle.event_laws.specs.FieldOrder.{DeletedFaultIsFirst};
 ghost use Rattle.event_laws.specs.L2Lines.{L2AdvsAreRead};
-ghost use Rattle.event_laws.specs.Naming.{ObjectsGoByName, LinesGoByName};
+ghost use Rattle.kube_events.specs.Naming.{ObjectsGoByName, LinesGoByName};
 ghost use Rattle.event_laws.specs.PartOrder.{ItemFaultsAreFirst, PartFaultIsFirst, port_rows};
 ghost use Rattle.event_laws.specs.PartOrder.{place_rows, allocation_rows};
 ghost use Rattle.event_laws.specs.PartOrder.{selector_rows, expression_rows, named_value_rows};

@@ -2,7 +2,7 @@
 use Rattle.std.specs.Prelude.{ℕ, List, [], ◌∷◌, ◌++◌, Bool, Option, Some, None, option_and_then, is_some, filter, map, codes}
 use Rattle.serde_json.specs.Data.{Data}
 use Rattle.serde_json.specs.Find.{get}
-use Rattle.json_fields.specs.Line.{value_of_line}
+use Rattle.json_values.specs.Line.{value_of_line}
 use Rattle.json_fields.specs.Path.{Path}
 use Rattle.json_fields.specs.Reading.{unless_null}
 use Rattle.kube_model.specs.declared.event.Event.{Event}

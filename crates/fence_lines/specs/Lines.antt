@@ -5,7 +5,7 @@ use Rattle.serde_json.specs.Data.{Data, Items, Members, string, number, unsigned
 use Rattle.serde_json.specs.Data.{member, no_members, put as with_member}
 use Rattle.serde_json.specs.View.{items_of}
 use Rattle.serde_json.specs.Written.{compact_text}
-use Rattle.json_fields.specs.Line.{value_of_line}
+use Rattle.json_values.specs.Line.{value_of_line}
 use Rattle.json_fields.specs.Path.{Path}
 use Rattle.kube_model.specs.declared.event.EventFault.{EventFault}
 use Rattle.kube_model.specs.declared.event.EventFault.TheVariants.{NotJson, NotEvent, Field}

@@ -6,7 +6,7 @@ use Rattle.mlb_base.specs.Items.{IsIn}
 use Rattle.serde_json.specs.Data.{Data, null, boolean, number, string, array, object}
 use Rattle.serde_json.specs.Find.{get, as_str}
 use Rattle.json_fields.specs.Path.{Path}
-use Rattle.json_fields.specs.Line.{value_of_line}
+use Rattle.json_values.specs.Line.{value_of_line}
 use Rattle.json_fields.specs.Reading.{is_text}
 use Rattle.kube_model.specs.declared.event.Event.{Event}
 use Rattle.kube_model.specs.declared.event.Event.TheVariants.{ListEnd, Expired, Ignored}

@@ -3,7 +3,7 @@ use Rattle.std.specs.Prelude.{◌≡◌, ◌↔◌, ◌⊎◌, ℕ, List, [], �
 use Rattle.mlb_base.specs.Items.{IsIn}
 use Rattle.serde_json.specs.Data.{Data, string}
 use Rattle.serde_json.specs.Find.{get}
-use Rattle.json_fields.specs.Line.{value_of_line}
+use Rattle.json_values.specs.Line.{value_of_line}
 use Rattle.kube_model.specs.declared.event.Event.TheVariants.{ListEnd, Expired, Ignored}
 use Rattle.kube_model.specs.declared.event.EventFault.TheVariants.{NotJson, NotEvent}
 use Rattle.kube_model.specs.declared.event.ListGroup.{ListGroup}

@@ -13,7 +13,7 @@ use Rattle.json.specs.Json as json
 use Rattle.json.specs.Lex.{tokens}
 use Rattle.serde_json.specs.Data.{Data, number, array, object, item, Members, no_members, member, put}
 use Rattle.serde_json.specs.Read.{number_of, of_json, of_items, of_members, max_depth, read}
-use Rattle.json_fields.specs.Line.{value_of_line}
+use Rattle.json_values.specs.Line.{value_of_line}
 use Rattle.json_text_laws.specs.Texts.{HasTexts, ItemsHaveTexts, MembersHaveTexts, ValuesHaveTexts}
 use Rattle.json_text_laws.proofs.Tokens.{tokens_texts}
 use Rattle.json_text_laws.proofs.Trees.{JsonTexts, ItemsTexts, MembersTexts, value_found, last_texts}

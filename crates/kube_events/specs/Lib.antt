@@ -3,9 +3,11 @@ pub mod CommunityFields
 pub mod Event
 pub mod Fields
 pub mod Frame
+pub mod Kept
 pub mod L2Fields
 pub mod Members
 pub mod Named
+pub mod Naming
 pub mod ObjectFields
 pub mod PeerFields
 pub mod PoolFields

@@ -7,7 +7,7 @@ use Rattle.std.specs.Str.{bytes_eq}
 use Rattle.serde_json.specs.Data.{Data}
 use Rattle.serde_json.specs.Find.{get}
 use Rattle.json_fields.specs.Path.{Path}
-use Rattle.json_fields.specs.Line.{value_of_line}
+use Rattle.json_values.specs.Line.{value_of_line}
 use Rattle.json_text_laws.specs.Texts.{HasTexts}
 use Rattle.json_text_laws.proofs.Readers.{Reads, then_ok, any_ok, get_texts}
 use Rattle.json_text_laws.proofs.Values.{value_texts}

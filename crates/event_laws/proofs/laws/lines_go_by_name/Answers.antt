@@ -1,4 +1,4 @@
-use Rattle.event_laws.proofs.NameLaws.{lines_go_by_name}
+use Rattle.kube_events.proofs.NameLaws.{lines_go_by_name}
 use Rattle.event_laws.proofs.laws.lines_go_by_name.Goals as goal
 
 pub returns : goal.returns

@@ -29,9 +29,9 @@ use Rattle.kube_events.specs.Members.{members_of}
 use Rattle.kube_events.specs.Frame.{bytes_of, frame_of}
 use Rattle.kube_events.specs.Event.{in_field, text_in, list_end, listed_in, ends_list, Says, set_event, deleted_event}
 use Rattle.kube_events.specs.Event.{bookmark_event, of_kind, of_object, watched, of_type, of_type_if, event_of}
-use Rattle.event_laws.specs.Naming.{SameObjectness, PortsAlike, PlacesAlike, ExpressionsAlike, SelectorsAlike, AllocationsAlike, NamedValuesAlike}
-use Rattle.event_laws.specs.Naming.{EndpointsAlike, ServicesAlike, PoolsAlike, L2AdvsAlike, BgpAdvsAlike, PeersAlike, SlicesAlike, BodiesAlike}
-use Rattle.event_laws.specs.Naming.{ObjectsAlike, ObjectsGoByName, OfKindAlike, WatchedAlike, AreWatchedAlike, LinesAlike, LinesGoByName}
+use Rattle.kube_events.specs.Naming.{SameObjectness, PortsAlike, PlacesAlike, ExpressionsAlike, SelectorsAlike, AllocationsAlike, NamedValuesAlike}
+use Rattle.kube_events.specs.Naming.{EndpointsAlike, ServicesAlike, PoolsAlike, L2AdvsAlike, BgpAdvsAlike, PeersAlike, SlicesAlike, BodiesAlike}
+use Rattle.kube_events.specs.Naming.{ObjectsAlike, ObjectsGoByName, OfKindAlike, WatchedAlike, AreWatchedAlike, LinesAlike, LinesGoByName}
 
 -- ---- parts of objects
 

@@ -1,0 +1,4 @@
+mod Keeping
+mod Lines
+mod Loops
+pub mod Views

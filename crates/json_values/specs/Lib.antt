@@ -1,0 +1,4 @@
+pub mod Kept
+pub mod Line
+pub mod Places
+pub mod View

@@ -1,6 +1,6 @@
 //! Objects that are to be admitted, which have no version yet.
 ghost use Rattle.std.specs.Prelude.{◌≡◌, codes};
-ghost use Rattle.serde_json.specs.View.{view};
+ghost use Rattle.json_values.specs.View.{view};
 ghost use Rattle.json_fields.specs.Reading.{Gives};
 ghost use Rattle.kube_events.specs.Event.{text_in};
 ghost use Rattle.object_history.specs.Observations.{is_config_kind};
@@ -10,7 +10,7 @@ ghost use Rattle.admission_reviews.specs.Given.{GivesRead};
 use json_fields::FieldFault;
 use kube_events::read_object;
 use kube_model::{EventFault, Kind, Object};
-use serde_json::Value;
+use json_values::BorrowedValue;
 use std::alloc::Global;
 
 /// Whether a configuration is compiled from objects of the kind.
@@ -24,18 +24,18 @@ pub(crate) fn is_config_kind(kind: Kind) -> bool
 }
 
 /// The kind that the object names, if it is one that is read.
-fn kind_in(object: &Value) -> Option<Kind>
+fn kind_in(object: &BorrowedValue<'_>) -> Option<Kind>
     ensures { result ≡ kind_in (view object.now) }
 {
     object
         .get("kind")
-        .and_then(Value::as_str)
+        .and_then(BorrowedValue::as_str)
         .and_then(Kind::named)
 }
 
 /// The object that the value states, where it is of a kind that a configuration is compiled from.
 #[tactic(auto, unfolding(crate::specs::Admitted::admitted_of))]
-pub(crate) fn admitted_from(alloc: Global, object: &Value) -> Result<Option<Object>, FieldFault>
+pub(crate) fn admitted_from(alloc: Global, object: &BorrowedValue<'_>) -> Result<Option<Object>, FieldFault>
     ensures { Gives (λ x. x) result (admitted_of (view object.now)) }
 {
     match kind_in(object) {
@@ -49,7 +49,7 @@ pub(crate) fn admitted_from(alloc: Global, object: &Value) -> Result<Option<Obje
 /// Community.
 ///
 /// `Field` with the path of the first field that is invalid; it is no other fault but `NoMemory`.
-pub fn read_admitted(alloc: Global, object: &Value) -> Result<Option<Object>, EventFault>
+pub fn read_admitted(alloc: Global, object: &BorrowedValue<'_>) -> Result<Option<Object>, EventFault>
     ensures { GivesRead result (admitted_of (view object.now)) }
 {
     Ok(admitted_from(alloc, object)?)

@@ -3,7 +3,7 @@ ghost use Rattle.std.specs.Prelude.{◌≡◌};
 ghost use Rattle.admission_reviews.specs.Operations.{operation_named, operation_of};
 
 use json_fields::{FieldFault, FromValue, or_faulty};
-use serde_json::Value;
+use json_values::BorrowedValue;
 use std::alloc::Global;
 
 /// What a request is to do to an object.
@@ -31,7 +31,7 @@ impl FromValue for Operation {
     ghost reading = { operation_of };
 
     #[tactic(auto, unfolding(crate::specs::Operations::operation_of))]
-    fn from_value(alloc: Global, value: &Value) -> Result<Operation, FieldFault> {
+    fn from_value(alloc: Global, value: &BorrowedValue<'_>) -> Result<Operation, FieldFault> {
         or_faulty(alloc, value.as_str().and_then(operation_named))
     }
 }

@@ -1,6 +1,6 @@
 //! What a review asks.
 ghost use Rattle.std.specs.Prelude.{◌≡◌};
-ghost use Rattle.serde_json.specs.View.{view};
+ghost use Rattle.json_values.specs.View.{view};
 ghost use Rattle.json_fields.specs.Reading.{Gives, GivesIf};
 ghost use Rattle.kube_events.specs.Fields.{name_field};
 ghost use Rattle.admission_reviews.specs.Given.{GivesLine};
@@ -12,10 +12,10 @@ ghost use Rattle.admission_reviews.specs.Reviews.{review_of_line};
 
 use crate::admitted::{admitted_from, is_config_kind};
 use crate::operation::Operation;
-use json_fields::{FieldFault, FromValue, read_value, require_object, required, required_name};
+use json_fields::{FieldFault, FromValue, require_object, required, required_name};
 use kube_labels::Text;
 use kube_model::{EventFault, Kind, Object};
-use serde_json::Value;
+use json_values::{BorrowedValue, Scratch, read_whole};
 use std::alloc::Global;
 use std::marker::Model;
 
@@ -68,7 +68,7 @@ impl Model for Gone {
 }
 
 /// What an object that is written comes to. A field at fault is told by its path.
-fn written_change(alloc: Global, object: &Value) -> Result<Change, FieldFault>
+fn written_change(alloc: Global, object: &BorrowedValue<'_>) -> Result<Change, FieldFault>
     ensures { GivesIf result (set_change (admitted_of (view object.now))) }
 {
     match admitted_from(alloc, object) {
@@ -80,7 +80,7 @@ fn written_change(alloc: Global, object: &Value) -> Result<Change, FieldFault>
 }
 
 /// The object of the kind that the value names is taken out. A name at fault is told by its path.
-fn removal(alloc: Global, kind: Kind, object: &Value) -> Result<Change, FieldFault>
+fn removal(alloc: Global, kind: Kind, object: &BorrowedValue<'_>) -> Result<Change, FieldFault>
     ensures { GivesIf result (removal kind (name_field (view object.now))) }
 {
     match required_name(alloc, object, "metadata.name") {
@@ -91,7 +91,7 @@ fn removal(alloc: Global, kind: Kind, object: &Value) -> Result<Change, FieldFau
 }
 
 /// What the deletion of an object comes to.
-fn remove_change(alloc: Global, kind: Option<Kind>, object: &Value) -> Result<Change, FieldFault>
+fn remove_change(alloc: Global, kind: Option<Kind>, object: &BorrowedValue<'_>) -> Result<Change, FieldFault>
     ensures { GivesIf result (remove_change kind (view object.now)) }
 {
     match kind {
@@ -104,7 +104,7 @@ impl FromValue for Written {
     ghost reading = { written_of };
 
     #[tactic(auto, unfolding(crate::specs::Reviews::written_of))]
-    fn from_value(alloc: Global, value: &Value) -> Result<Written, FieldFault> {
+    fn from_value(alloc: Global, value: &BorrowedValue<'_>) -> Result<Written, FieldFault> {
         require_object(alloc, value)?;
         let _kind: Text = required(alloc, value, "kind")?;
         Ok(Written {
@@ -117,7 +117,7 @@ impl FromValue for Gone {
     ghost reading = { gone_of };
 
     #[tactic(auto, unfolding(crate::specs::Reviews::gone_of))]
-    fn from_value(alloc: Global, value: &Value) -> Result<Gone, FieldFault> {
+    fn from_value(alloc: Global, value: &BorrowedValue<'_>) -> Result<Gone, FieldFault> {
         require_object(alloc, value)?;
         let kind: Text = required(alloc, value, "kind")?;
         Ok(Gone {
@@ -127,7 +127,7 @@ impl FromValue for Gone {
 }
 
 /// What the operation of a request would change.
-fn change_by(alloc: Global, operation: Operation, request: &Value) -> Result<Change, FieldFault>
+fn change_by(alloc: Global, operation: Operation, request: &BorrowedValue<'_>) -> Result<Change, FieldFault>
     ensures { Gives (λ x. x) result (change_by operation (view request.now)) }
 {
     match operation {
@@ -147,7 +147,7 @@ impl FromValue for Review {
     ghost reading = { request_of };
 
     #[tactic(auto, unfolding(crate::specs::Reviews::request_of))]
-    fn from_value(alloc: Global, value: &Value) -> Result<Review, FieldFault> {
+    fn from_value(alloc: Global, value: &BorrowedValue<'_>) -> Result<Review, FieldFault> {
         require_object(alloc, value)?;
         let uid = required_name(alloc, value, "uid")?;
         let operation: Operation = required(alloc, value, "operation")?;
@@ -157,17 +157,17 @@ impl FromValue for Review {
 }
 
 /// Whether the value is an AdmissionReview.
-fn is_review(value: &Value) -> bool
+fn is_review(value: &BorrowedValue<'_>) -> bool
     ensures { result ≡ is_review (view value.now) }
 {
-    match value.get("kind").and_then(Value::as_str) {
+    match value.get("kind").and_then(BorrowedValue::as_str) {
         Some(kind) => kind == "AdmissionReview",
         None => false,
     }
 }
 
 #[tactic(auto, unfolding(crate::specs::Reviews::review_of))]
-fn review_from(alloc: Global, value: &Value) -> Result<Option<Review>, FieldFault>
+fn review_from(alloc: Global, value: &BorrowedValue<'_>) -> Result<Option<Review>, FieldFault>
     ensures { Gives (λ x. x) result (review_of (view value.now)) }
 {
     if is_review(value) {
@@ -187,7 +187,8 @@ fn review_from(alloc: Global, value: &Value) -> Result<Option<Review>, FieldFaul
 pub fn read_review(alloc: Global, line: &[u8]) -> Result<Option<Review>, EventFault>
     ensures { GivesLine result (review_of_line line.now) }
 {
-    match read_value(alloc, line)? {
+    let mut scratch = Scratch::new(alloc);
+    match read_whole(alloc, &mut scratch, line)? {
         Some(value) => Ok(review_from(alloc, &value)?),
         None => Err(EventFault::NotJson),
     }

@@ -1,17 +1,16 @@
 //! What stands in an object and does nothing.
 ghost use Rattle.std.specs.Prelude.{◌≡◌, ◌∷◌, ◌++◌, [], codes, map, IfOk, OnOk};
 ghost use Rattle.serde_json.specs.Find.{get};
-ghost use Rattle.serde_json.specs.View.{view};
+ghost use Rattle.json_values.specs.View.{view};
 ghost use Rattle.kube_model.specs.Kinds.{kind_of};
 ghost use Rattle.explained_lines.specs.Unused.{unread_members, stands_in_spec, spec_path};
 ghost use Rattle.explained_lines.specs.Unused.{unused_in, object_of_line, unused_of};
 ghost use Rattle.std.specs.Prelude.{Some};
 
-use json_fields::read_value;
 use kube_labels::{Text, TextList};
 use kube_model::{Event, Kind};
 use mlb_base::NoMemory;
-use serde_json::Value;
+use json_values::{BorrowedValue, Scratch, read_whole};
 use std::alloc::Global;
 
 /// The members of a kind's spec in MetalLB's API reference (v1beta1, and v1beta2 of BGPPeer) that
@@ -46,7 +45,7 @@ fn unread_members(kind: Kind) -> &'static [&'static str]
 }
 
 /// Whether the object's spec has a member of this name. One that is null counts as absent.
-fn stands_in_spec(object: &Value, name: &str) -> bool
+fn stands_in_spec(object: &BorrowedValue<'_>, name: &str) -> bool
     ensures { result ≡ stands_in_spec (view object.now) name.now }
 {
     match object.get("spec").and_then(|spec| spec.get(name)) {
@@ -64,7 +63,7 @@ fn push_path(paths: &mut TextList, alloc: Global, name: &str) -> Result<(), NoMe
 }
 
 /// The paths of the members of the object's spec that are there and that no program reads.
-fn unused_in(alloc: Global, kind: Kind, object: &Value) -> Result<TextList, NoMemory>
+fn unused_in(alloc: Global, kind: Kind, object: &BorrowedValue<'_>) -> Result<TextList, NoMemory>
     ensures { IfOk result (λ paths. paths ≡ unused_in kind (Some (view object.now))) }
 {
     let mut paths = TextList::new(alloc);
@@ -79,7 +78,8 @@ fn unused_in(alloc: Global, kind: Kind, object: &Value) -> Result<TextList, NoMe
 fn unused_in_line(alloc: Global, kind: Kind, line: &[u8]) -> Result<TextList, NoMemory>
     ensures { IfOk result (λ paths. paths ≡ unused_in kind (object_of_line line.now)) }
 {
-    let value = read_value(alloc, line)?;
+    let mut scratch = Scratch::new(alloc);
+    let value = read_whole(alloc, &mut scratch, line)?;
     match value.as_ref().and_then(|value| value.get("object")) {
         Some(object) => unused_in(alloc, kind, object),
         None => Ok(TextList::new(alloc)),

@@ -1,16 +1,16 @@
 //! What a line tells a fence.
-ghost use Rattle.serde_json.specs.View.{view};
+ghost use Rattle.json_values.specs.View.{view};
 ghost use Rattle.json_fields.specs.Reading.{Gives};
 ghost use Rattle.put_fence.specs.Fields.{input_of};
 ghost use Rattle.fence_lines.specs.Lines.{GivesInput, input_of_line};
 
-use json_fields::{FieldFault, FromValue, read_value};
+use json_fields::{FieldFault, FromValue};
 use kube_model::EventFault;
 use put_fence::Input;
-use serde_json::Value;
+use json_values::{BorrowedValue, Scratch, read_whole};
 use std::alloc::Global;
 
-fn input_in(alloc: Global, value: &Value) -> Result<Input, FieldFault>
+fn input_in(alloc: Global, value: &BorrowedValue<'_>) -> Result<Input, FieldFault>
     ensures { Gives (λ x. x) result (input_of (view value.now)) }
 {
     Input::from_value(alloc, value)
@@ -24,7 +24,8 @@ fn input_in(alloc: Global, value: &Value) -> Result<Input, FieldFault>
 pub fn read_input(alloc: Global, line: &[u8]) -> Result<Input, EventFault>
     ensures { GivesInput result (input_of_line line.now) }
 {
-    match read_value(alloc, line)? {
+    let mut scratch = Scratch::new(alloc);
+    match read_whole(alloc, &mut scratch, line)? {
         Some(value) => Ok(input_in(alloc, &value)?),
         None => Err(EventFault::NotJson),
     }

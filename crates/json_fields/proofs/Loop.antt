@@ -3,8 +3,8 @@ use Rattle.std.proofs.Common.{◌≡◌, ℕ, suc, ◌+◌, ◌≤◌, ◌<◌, 
 use Rattle.std.proofs.Common.{Ok, Err, refl, sym, ap, ◌∙◌, append_assoc, drop-cons, add-one}
 use Rattle.std.proofs.lemmas.List.{append-nil, drop_all}
 use Rattle.serde_json.specs.Data.{Data, Items, item}
-use Rattle.serde_json.specs.View.{view, items_view}
-use Rattle.serde_json.specs.declared.value.Value.{Value}
+use Rattle.json_values.specs.View.{view, items_view}
+use Rattle.json_values.specs.declared.value.BorrowedValue.{BorrowedValue}
 use Rattle.json_fields.specs.declared.fault.FieldFault.{FieldFault}
 use Rattle.json_fields.specs.declared.fault.FieldFault.TheVariants.{Faulty, NoMemory}
 use Rattle.json_fields.specs.Path.{Path, item_place}
@@ -15,7 +15,7 @@ abbrev pub with_front : {A : Type 0} → List A → Result (List A) Path → Res
 with_front front read = read >>= λ items. Ok (front ++ items)
 
 -- the values from this index on
-abbrev pub items_after : ℕ → List Value → Items
+abbrev pub items_after : ℕ → List BorrowedValue → Items
 items_after index values = items_view (drop index values)
 
 regroup : {A : Type 0} (front : List A) (x : A) (read : Result (List A) Path)
@@ -24,13 +24,13 @@ regroup front x (Ok items) = ap (λ (l : List _). Ok l) (simp append_assoc)
 regroup front x (Err path) = refl
 
 -- the items from the index on begin with the one at the index
-opened : (index : ℕ) (values : List Value) (v : Value) → index < length values → v ≡ get_or values index v
+opened : (index : ℕ) (values : List BorrowedValue) (v : BorrowedValue) → index < length values → v ≡ get_or values index v
     → items_after index values ≡ item (view v) (items_after (index + 1) values)
 opened index values v lt at =
     let cut : drop index values ≡ get_or values index v ∷ drop (suc index) values = drop-cons values index v lt in
     rw (add-one, cut, ← at) refl
 
-pub goes_on : {A : Type 0} (read : Data → Result A Path) (front : List A) (index : ℕ) (values : List Value) (v : Value) (x : A) (total : Result (List A) Path)
+pub goes_on : {A : Type 0} (read : Data → Result A Path) (front : List A) (index : ℕ) (values : List BorrowedValue) (v : BorrowedValue) (x : A) (total : Result (List A) Path)
     → index < length values → v ≡ get_or values index v → within (item_place index) (read (view v)) ≡ Ok x
     → with_front front (items_from read index (items_after index values)) ≡ total
     → with_front (front ++ x ∷ []) (items_from read (index + 1) (items_after (index + 1) values)) ≡ total
@@ -54,7 +54,7 @@ ends_with_fault : {A : Type 0} (fault : FieldFault) (front : List A) (first : Re
 ends_with_fault (Faulty p) front first others h = rw h refl
 ends_with_fault NoMemory front first others h = tt
 
-pub ends : {A : Type 0} (read : Data → Result A Path) (fault : FieldFault) (front : List A) (index : ℕ) (values : List Value) (v : Value)
+pub ends : {A : Type 0} (read : Data → Result A Path) (fault : FieldFault) (front : List A) (index : ℕ) (values : List BorrowedValue) (v : BorrowedValue)
     (total : Result (List A) Path)
     → index < length values → v ≡ get_or values index v → Fails fault (within (item_place index) (read (view v)))
     → with_front front (items_from read index (items_after index values)) ≡ total
@@ -66,7 +66,7 @@ ends read fault front index values v total lt at h so_far =
     rw (← so_far, one)
     (ends_with_fault fault front (within (item_place index) (read (view v))) (items_from read (index + 1) (items_after (index + 1) values)) h)
 
-pub is_done : {A : Type 0} (read : Data → Result A Path) (front : List A) (index : ℕ) (values : List Value) (total : Result (List A) Path)
+pub is_done : {A : Type 0} (read : Data → Result A Path) (front : List A) (index : ℕ) (values : List BorrowedValue) (total : Result (List A) Path)
     → length values ≤ index → with_front front (items_from read index (items_after index values)) ≡ total → total ≡ Ok front
 unfolding items_from
 is_done read front index values total le so_far =

@@ -1,23 +1,23 @@
 //! Fields by their paths.
 ghost use Rattle.std.specs.Prelude.{Result, []};
 ghost use Rattle.serde_json.specs.Data.{Data};
-ghost use Rattle.serde_json.specs.View.{view};
+ghost use Rattle.json_values.specs.View.{view};
 ghost use Rattle.json_fields.specs.Path.{Path};
 ghost use Rattle.json_fields.specs.Reading.{Gives, or_itself, default_at, tells_at, optional_at};
 ghost use Rattle.json_fields.specs.Reading.{required_at, labels_at, list_at, text_of, bool_of};
 
 use crate::fault::FieldFault;
 use crate::place::find;
+use json_values::BorrowedValue;
 use kube_labels::{Labels, Text};
 use mlb_base::Sequence;
-use serde_json::Value;
 use std::alloc::Global;
 
 /// A type that a JSON value may stand for.
 pub trait FromValue: Drop {
     ghost reading: { Data → Result Self Path };
 
-    fn from_value(alloc: Global, value: &Value) -> Result<Self, FieldFault>
+    fn from_value(alloc: Global, value: &BorrowedValue<'_>) -> Result<Self, FieldFault>
         ensures { Gives (λ x. x) result (reading (view value.now)) };
 }
 
@@ -35,7 +35,7 @@ impl FromValue for Text {
     ghost reading = { text_of };
 
     #[tactic(auto, unfolding(crate::specs::Reading::text_of))]
-    fn from_value(alloc: Global, value: &Value) -> Result<Text, FieldFault> {
+    fn from_value(alloc: Global, value: &BorrowedValue<'_>) -> Result<Text, FieldFault> {
         match value.as_str() {
             Some(text) => Ok(Text::new(alloc, text)?),
             None => Err(FieldFault::at(alloc, "")),
@@ -47,7 +47,7 @@ impl FromValue for bool {
     ghost reading = { bool_of };
 
     #[tactic(auto, unfolding(crate::specs::Reading::bool_of))]
-    fn from_value(alloc: Global, value: &Value) -> Result<bool, FieldFault> {
+    fn from_value(alloc: Global, value: &BorrowedValue<'_>) -> Result<bool, FieldFault> {
         or_faulty(alloc, value.as_bool())
     }
 }
@@ -56,7 +56,7 @@ impl FromValue for bool {
 #[tactic(auto, unfolding(crate::specs::Reading::optional_at))]
 pub fn optional<T: FromValue>(
     alloc: Global,
-    object: &Value,
+    object: &BorrowedValue<'_>,
     path: &str,
 ) -> Result<Option<T>, FieldFault>
     ensures { Gives (λ x. x) result (optional_at T.reading path.now (view object.now)) }
@@ -72,7 +72,11 @@ pub fn optional<T: FromValue>(
 
 /// The field at this path, which must be there.
 #[tactic(auto, unfolding(crate::specs::Reading::required_at))]
-pub fn required<T: FromValue>(alloc: Global, object: &Value, path: &str) -> Result<T, FieldFault>
+pub fn required<T: FromValue>(
+    alloc: Global,
+    object: &BorrowedValue<'_>,
+    path: &str,
+) -> Result<T, FieldFault>
     ensures { Gives (λ x. x) result (required_at T.reading path.now (view object.now)) }
 {
     match optional(alloc, object, path)? {
@@ -85,7 +89,7 @@ pub fn required<T: FromValue>(alloc: Global, object: &Value, path: &str) -> Resu
 #[tactic(auto, unfolding(crate::specs::Reading::default_at))]
 pub fn with_default<T: FromValue>(
     alloc: Global,
-    object: &Value,
+    object: &BorrowedValue<'_>,
     path: &str,
     default: T,
 ) -> Result<T, FieldFault>
@@ -96,7 +100,7 @@ pub fn with_default<T: FromValue>(
 
 /// The text at this path. One that is absent is empty.
 #[tactic(auto, unfolding(crate::specs::Reading::default_at))]
-pub fn text(alloc: Global, object: &Value, path: &str) -> Result<Text, FieldFault>
+pub fn text(alloc: Global, object: &BorrowedValue<'_>, path: &str) -> Result<Text, FieldFault>
     ensures { Gives (λ x. x) result (default_at text_of path.now [] (view object.now)) }
 {
     match optional(alloc, object, path)? {
@@ -107,7 +111,12 @@ pub fn text(alloc: Global, object: &Value, path: &str) -> Result<Text, FieldFaul
 
 /// Whether the text at this path is there and is the one wanted.
 #[tactic(auto, unfolding(crate::specs::Reading::tells_at))]
-pub fn tells(alloc: Global, object: &Value, path: &str, wanted: &str) -> Result<bool, FieldFault>
+pub fn tells(
+    alloc: Global,
+    object: &BorrowedValue<'_>,
+    path: &str,
+    wanted: &str,
+) -> Result<bool, FieldFault>
     ensures { Gives (λ x. x) result (tells_at path.now wanted.now (view object.now)) }
 {
     let text: Option<Text> = optional(alloc, object, path)?;
@@ -119,7 +128,7 @@ pub fn tells(alloc: Global, object: &Value, path: &str, wanted: &str) -> Result<
 
 /// The text map at this path. One that is absent is empty.
 #[tactic(auto, unfolding(crate::specs::Reading::labels_at))]
-pub fn labels(alloc: Global, object: &Value, path: &str) -> Result<Labels, FieldFault>
+pub fn labels(alloc: Global, object: &BorrowedValue<'_>, path: &str) -> Result<Labels, FieldFault>
     ensures { Gives (λ x. x) result (labels_at path.now (view object.now)) }
 {
     match optional(alloc, object, path)? {
@@ -132,7 +141,7 @@ pub fn labels(alloc: Global, object: &Value, path: &str) -> Result<Labels, Field
 #[tactic(auto, unfolding(crate::specs::Reading::list_at))]
 pub fn list<T: FromValue>(
     alloc: Global,
-    object: &Value,
+    object: &BorrowedValue<'_>,
     path: &str,
 ) -> Result<Sequence<T>, FieldFault>
     ensures { Gives (λ x. x) result (list_at T.reading path.now (view object.now)) }

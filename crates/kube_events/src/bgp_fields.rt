@@ -1,14 +1,14 @@
 //! The fields of advertisements by BGP.
 ghost use Rattle.std.specs.Prelude.{◌≡◌};
-ghost use Rattle.serde_json.specs.View.{view};
+ghost use Rattle.json_values.specs.View.{view};
 ghost use Rattle.json_fields.specs.Reading.{Gives};
 ghost use Rattle.kube_events.specs.BgpFields.{route_spec_of, choice_spec_of, bgp_of, bgp_with};
 
 use crate::fields::in_turn;
 use json_fields::{FieldFault, list, number_or, with_default};
+use json_values::BorrowedValue;
 use kube_labels::TextList;
 use kube_model::{BgpAdv, Key, LengthV4, LengthV6, SelectorTexts};
-use serde_json::Value;
 use std::alloc::Global;
 
 /// How routes are made of addresses.
@@ -21,7 +21,7 @@ struct RouteSpec {
 }
 
 #[tactic(auto, unfolding(crate::specs::BgpFields::route_spec_of))]
-fn route_spec(alloc: Global, object: &Value) -> Result<RouteSpec, FieldFault>
+fn route_spec(alloc: Global, object: &BorrowedValue<'_>) -> Result<RouteSpec, FieldFault>
     ensures { Gives (λ x. x) result (route_spec_of (view object.now)) }
 {
     let length = with_default(alloc, object, "spec.aggregationLength", LengthV4::whole())?;
@@ -45,7 +45,7 @@ struct ChoiceSpec {
     peers: TextList,
 }
 
-fn choice_spec(alloc: Global, object: &Value) -> Result<ChoiceSpec, FieldFault>
+fn choice_spec(alloc: Global, object: &BorrowedValue<'_>) -> Result<ChoiceSpec, FieldFault>
     ensures { Gives (λ x. x) result (choice_spec_of (view object.now)) }
 {
     let pools = in_turn(
@@ -72,7 +72,7 @@ pub(crate) struct BgpSpec {
     choice: ChoiceSpec,
 }
 
-pub(crate) fn bgp_spec(alloc: Global, object: &Value) -> Result<BgpSpec, FieldFault>
+pub(crate) fn bgp_spec(alloc: Global, object: &BorrowedValue<'_>) -> Result<BgpSpec, FieldFault>
     ensures { Gives bgp_with result (bgp_of (view object.now)) }
 {
     let route = route_spec(alloc, object)?;

@@ -1,13 +1,13 @@
 //! The fields of communities.
 ghost use Rattle.std.specs.Prelude.{◌≡◌, IfOk};
-ghost use Rattle.serde_json.specs.View.{view};
+ghost use Rattle.json_values.specs.View.{view};
 ghost use Rattle.json_fields.specs.Reading.{Gives};
 ghost use Rattle.kube_events.specs.CommunityFields.{named_value_of, named_values_field};
 
 use json_fields::{FieldFault, FromValue, list, require_object, required};
+use json_values::BorrowedValue;
 use kube_labels::{NamedValues, Text};
 use mlb_base::{NoMemory, Sequence};
-use serde_json::Value;
 use std::alloc::Global;
 use std::marker::Model;
 
@@ -30,7 +30,7 @@ impl FromValue for NamedValue {
     ghost reading = { named_value_of };
 
     #[tactic(auto, unfolding(crate::specs::CommunityFields::named_value_of))]
-    fn from_value(alloc: Global, value: &Value) -> Result<NamedValue, FieldFault> {
+    fn from_value(alloc: Global, value: &BorrowedValue<'_>) -> Result<NamedValue, FieldFault> {
         require_object(alloc, value)?;
         let name = required(alloc, value, "name")?;
         let value = required(alloc, value, "value")?;
@@ -50,7 +50,10 @@ fn pairs_from(alloc: Global, named: Sequence<NamedValue>) -> Result<NamedValues,
 }
 
 /// The names with their values, in their order.
-pub(crate) fn named_values(alloc: Global, object: &Value) -> Result<NamedValues, FieldFault>
+pub(crate) fn named_values(
+    alloc: Global,
+    object: &BorrowedValue<'_>,
+) -> Result<NamedValues, FieldFault>
     ensures { Gives (λ x. x) result (named_values_field (view object.now)) }
 {
     let named = list(alloc, object, "spec.communities")?;

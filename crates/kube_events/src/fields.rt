@@ -1,19 +1,23 @@
 //! The fields of every kind.
 ghost use Rattle.std.specs.Prelude.{◌≡◌, IfOk};
-ghost use Rattle.serde_json.specs.View.{view};
+ghost use Rattle.json_values.specs.View.{view};
 ghost use Rattle.json_fields.specs.Reading.{Gives};
 ghost use Rattle.kube_events.specs.Fields.{in_turn, key_of, pair_value};
 
 use json_fields::{FieldFault, required_name};
+use json_values::BorrowedValue;
 use kube_labels::{Labels, Text};
 use kube_model::{Key, Kind};
 use mlb_base::{NoMemory, TryCopy};
-use serde_json::Value;
 use std::alloc::Global;
 
 /// The key of an object of this kind. Services and endpoint slices alone have a namespace.
 #[tactic(auto, unfolding(crate::specs::Fields::key_of))]
-pub(crate) fn key_from(alloc: Global, kind: Kind, object: &Value) -> Result<Key, FieldFault>
+pub(crate) fn key_from(
+    alloc: Global,
+    kind: Kind,
+    object: &BorrowedValue<'_>,
+) -> Result<Key, FieldFault>
     ensures { Gives (λ x. x) result (key_of kind (view object.now)) }
 {
     let name = required_name(alloc, object, "metadata.name")?;

@@ -1,13 +1,13 @@
 //! Frames that an interface received.
-ghost use Rattle.serde_json.specs.View.{view};
+ghost use Rattle.json_values.specs.View.{view};
 ghost use Rattle.json_fields.specs.Reading.{Gives};
 ghost use Rattle.kube_events.specs.Frame.{bytes_of, frame_of};
 
 use hex::FromHexError;
 use json_fields::{FieldFault, FromValue, required};
+use json_values::BorrowedValue;
 use kube_model::Event;
 use mlb_base::{ByteList, Sequence};
-use serde_json::Value;
 use std::alloc::Global;
 use std::marker::Model;
 
@@ -29,7 +29,7 @@ impl FromValue for HexBytes {
     ghost reading = { bytes_of };
 
     #[tactic(auto, unfolding(crate::specs::Frame::bytes_of))]
-    fn from_value(alloc: Global, value: &Value) -> Result<HexBytes, FieldFault> {
+    fn from_value(alloc: Global, value: &BorrowedValue<'_>) -> Result<HexBytes, FieldFault> {
         let Some(text) = value.as_str() else {
             return Err(FieldFault::at(alloc, ""));
         };
@@ -44,7 +44,7 @@ impl FromValue for HexBytes {
 }
 
 #[tactic(auto, unfolding(crate::specs::Frame::frame_of))]
-pub(crate) fn frame_from(alloc: Global, line: &Value) -> Result<Event, FieldFault>
+pub(crate) fn frame_from(alloc: Global, line: &BorrowedValue<'_>) -> Result<Event, FieldFault>
     ensures { Gives (λ x. x) result (frame_of (view line.now)) }
 {
     let interface = required(alloc, line, "interface")?;

@@ -1,14 +1,14 @@
 //! The fields of advertisements on the local network.
 ghost use Rattle.std.specs.Prelude.{◌≡◌};
-ghost use Rattle.serde_json.specs.View.{view};
+ghost use Rattle.json_values.specs.View.{view};
 ghost use Rattle.json_fields.specs.Reading.{Gives};
 ghost use Rattle.kube_events.specs.L2Fields.{l2_of, l2_with};
 
 use crate::fields::in_turn;
 use json_fields::{FieldFault, list};
+use json_values::BorrowedValue;
 use kube_labels::TextList;
 use kube_model::{Key, L2Adv, SelectorTexts};
-use serde_json::Value;
 use std::alloc::Global;
 
 /// What is read of an advertisement beside its metadata.
@@ -20,7 +20,7 @@ pub(crate) struct L2Spec {
     interfaces: TextList,
 }
 
-pub(crate) fn l2_spec(alloc: Global, object: &Value) -> Result<L2Spec, FieldFault>
+pub(crate) fn l2_spec(alloc: Global, object: &BorrowedValue<'_>) -> Result<L2Spec, FieldFault>
     ensures { Gives l2_with result (l2_of (view object.now)) }
 {
     let pools = in_turn(

@@ -1,14 +1,14 @@
 //! The speakers that are active.
 ghost use Rattle.std.specs.Prelude.{◌≡◌, IfOk};
-ghost use Rattle.serde_json.specs.View.{view};
+ghost use Rattle.json_values.specs.View.{view};
 ghost use Rattle.json_fields.specs.Reading.{Gives};
 ghost use Rattle.kube_events.specs.Members.{distinct_names, members_of};
 
 use json_fields::{FieldFault, list};
+use json_values::BorrowedValue;
 use kube_labels::TextList;
 use kube_model::Event;
 use mlb_base::{NoMemory, Sequence};
-use serde_json::Value;
 use std::alloc::Global;
 use std::collections::BTreeSet;
 
@@ -24,7 +24,7 @@ fn distinct(alloc: Global, names: TextList) -> Result<TextList, NoMemory>
 }
 
 #[tactic(auto, unfolding(crate::specs::Members::members_of))]
-pub(crate) fn members_from(alloc: Global, line: &Value) -> Result<Event, FieldFault>
+pub(crate) fn members_from(alloc: Global, line: &BorrowedValue<'_>) -> Result<Event, FieldFault>
     ensures { Gives (λ x. x) result (members_of (view line.now)) }
 {
     let names = list(alloc, line, "members")?;

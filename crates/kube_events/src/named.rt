@@ -9,7 +9,7 @@ ghost use Rattle.kube_events.specs.Named.{address_in};
 
 use ip_ranges::{Address, Family, parse_address};
 use json_fields::{FieldFault, FromValue, or_faulty};
-use serde_json::Value;
+use json_values::BorrowedValue;
 use std::alloc::Global;
 use std::marker::Model;
 
@@ -51,7 +51,7 @@ impl FromValue for NamedFamily {
     ghost reading = { family_of };
 
     #[tactic(auto, unfolding(crate::specs::Named::family_of))]
-    fn from_value(alloc: Global, value: &Value) -> Result<NamedFamily, FieldFault> {
+    fn from_value(alloc: Global, value: &BorrowedValue<'_>) -> Result<NamedFamily, FieldFault> {
         or_faulty(alloc, value.as_str().and_then(family_named))
     }
 }
@@ -103,7 +103,7 @@ impl FromValue for Version {
     ghost reading = { version_of };
 
     #[tactic(auto, unfolding(crate::specs::Named::version_of))]
-    fn from_value(alloc: Global, value: &Value) -> Result<Version, FieldFault> {
+    fn from_value(alloc: Global, value: &BorrowedValue<'_>) -> Result<Version, FieldFault> {
         or_faulty(alloc, value.as_str().and_then(version_named))
     }
 }
@@ -145,7 +145,7 @@ impl FromValue for SpelledAddress {
     ghost reading = { address_in };
 
     #[tactic(auto, unfolding(crate::specs::Named::address_in))]
-    fn from_value(alloc: Global, value: &Value) -> Result<SpelledAddress, FieldFault> {
+    fn from_value(alloc: Global, value: &BorrowedValue<'_>) -> Result<SpelledAddress, FieldFault> {
         or_faulty(alloc, value.as_str().and_then(address_spelled))
     }
 }

@@ -1,6 +1,6 @@
 //! The fields of objects.
 ghost use Rattle.std.specs.Prelude.{◌≡◌};
-ghost use Rattle.serde_json.specs.View.{view};
+ghost use Rattle.json_values.specs.View.{view};
 ghost use Rattle.json_fields.specs.Reading.{Gives};
 ghost use Rattle.kube_events.specs.ObjectFields.{body_of, object_with, stated_object, changed_of};
 ghost use Rattle.kube_events.specs.ObjectFields.{deleted_of};
@@ -15,9 +15,9 @@ use crate::pool_fields::{PoolSpec, pool_spec, pool_with};
 use crate::service_fields::{ServiceSpec, service_spec, service_with};
 use crate::slice_fields::{SliceSpec, slice_spec, slice_with};
 use json_fields::{FieldFault, labels, required};
+use json_values::BorrowedValue;
 use kube_labels::{Labels, NamedValues};
 use kube_model::{CommunityList, Event, Key, Kind, Namespace, Node, Object};
-use serde_json::Value;
 use std::alloc::Global;
 
 /// What is read of an object beside its metadata.
@@ -35,7 +35,7 @@ enum Spec {
 }
 
 #[tactic(auto, unfolding(crate::specs::ObjectFields::body_of))]
-fn spec_from(alloc: Global, kind: Kind, object: &Value) -> Result<Spec, FieldFault>
+fn spec_from(alloc: Global, kind: Kind, object: &BorrowedValue<'_>) -> Result<Spec, FieldFault>
     ensures { Gives object_with result (body_of kind (view object.now)) }
 {
     match kind {
@@ -91,7 +91,11 @@ fn object_with(key: Key, labels: Labels, spec: Spec) -> Object
 
 /// The object of this kind that the value states, whatever its version.
 #[tactic(auto, unfolding(crate::specs::ObjectFields::stated_object))]
-pub fn read_object(alloc: Global, kind: Kind, object: &Value) -> Result<Object, FieldFault>
+pub fn read_object(
+    alloc: Global,
+    kind: Kind,
+    object: &BorrowedValue<'_>,
+) -> Result<Object, FieldFault>
     ensures { Gives (λ x. x) result (stated_object kind (view object.now)) }
 {
     let key = key_from(alloc, kind, object)?;
@@ -101,7 +105,11 @@ pub fn read_object(alloc: Global, kind: Kind, object: &Value) -> Result<Object, 
 }
 
 #[tactic(auto, unfolding(crate::specs::ObjectFields::changed_of))]
-pub(crate) fn changed_from(alloc: Global, kind: Kind, object: &Value) -> Result<Event, FieldFault>
+pub(crate) fn changed_from(
+    alloc: Global,
+    kind: Kind,
+    object: &BorrowedValue<'_>,
+) -> Result<Event, FieldFault>
     ensures { Gives (λ x. x) result (changed_of kind (view object.now)) }
 {
     let key = key_from(alloc, kind, object)?;
@@ -115,7 +123,11 @@ pub(crate) fn changed_from(alloc: Global, kind: Kind, object: &Value) -> Result<
 }
 
 #[tactic(auto, unfolding(crate::specs::ObjectFields::deleted_of))]
-pub(crate) fn deleted_from(alloc: Global, kind: Kind, object: &Value) -> Result<Event, FieldFault>
+pub(crate) fn deleted_from(
+    alloc: Global,
+    kind: Kind,
+    object: &BorrowedValue<'_>,
+) -> Result<Event, FieldFault>
     ensures { Gives (λ x. x) result (deleted_of kind (view object.now)) }
 {
     let key = key_from(alloc, kind, object)?;

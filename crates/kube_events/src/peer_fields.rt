@@ -1,12 +1,12 @@
 //! The fields of BGP peers.
 ghost use Rattle.std.specs.Prelude.{◌≡◌};
-ghost use Rattle.serde_json.specs.View.{view};
+ghost use Rattle.json_values.specs.View.{view};
 ghost use Rattle.json_fields.specs.Reading.{Gives};
 ghost use Rattle.kube_events.specs.PeerFields.{peer_of, peer_with};
 
 use json_fields::{FieldFault, list, required_number};
+use json_values::BorrowedValue;
 use kube_model::{BgpPeer, Key, SelectorTexts};
-use serde_json::Value;
 use std::alloc::Global;
 
 /// What is read of a peer beside its metadata.
@@ -18,7 +18,7 @@ pub(crate) struct PeerSpec {
 }
 
 #[tactic(auto, unfolding(crate::specs::PeerFields::peer_of))]
-pub(crate) fn peer_spec(alloc: Global, object: &Value) -> Result<PeerSpec, FieldFault>
+pub(crate) fn peer_spec(alloc: Global, object: &BorrowedValue<'_>) -> Result<PeerSpec, FieldFault>
     ensures { Gives peer_with result (peer_of (view object.now)) }
 {
     let my_asn = required_number(alloc, object, "spec.myASN", 1, 4294967295)?;

@@ -1,13 +1,13 @@
 //! The fields of pools.
 ghost use Rattle.std.specs.Prelude.{◌≡◌};
-ghost use Rattle.serde_json.specs.View.{view};
+ghost use Rattle.json_values.specs.View.{view};
 ghost use Rattle.json_fields.specs.Reading.{Gives};
 ghost use Rattle.kube_events.specs.PoolFields.{pool_of, pool_with};
 
 use json_fields::{FieldFault, list, optional, with_default};
+use json_values::BorrowedValue;
 use kube_labels::{Labels, TextList};
 use kube_model::{Allocation, Key, Pool};
-use serde_json::Value;
 use std::alloc::Global;
 
 /// What is read of a pool beside its metadata.
@@ -20,7 +20,7 @@ pub(crate) struct PoolSpec {
 }
 
 #[tactic(auto, unfolding(crate::specs::PoolFields::pool_of))]
-pub(crate) fn pool_spec(alloc: Global, object: &Value) -> Result<PoolSpec, FieldFault>
+pub(crate) fn pool_spec(alloc: Global, object: &BorrowedValue<'_>) -> Result<PoolSpec, FieldFault>
     ensures { Gives pool_with result (pool_of (view object.now)) }
 {
     let entries = list(alloc, object, "spec.addresses")?;

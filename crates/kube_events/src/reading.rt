@@ -1,16 +1,15 @@
 //! From a line to an event.
 ghost use Rattle.std.specs.Prelude.{◌≡◌, codes, option_map};
 ghost use Rattle.serde_json.specs.Find.{get};
-ghost use Rattle.serde_json.specs.View.{view};
+ghost use Rattle.json_values.specs.View.{view};
 ghost use Rattle.kube_events.specs.Event.{GivesEvent, bookmark_of, ends_list, listed_in, says};
 ghost use Rattle.kube_events.specs.Event.{watched, of_type, event_of, event_of_line, text_in};
 
 use crate::frame::frame_from;
 use crate::members::members_from;
 use crate::object_fields::{changed_from, deleted_from};
-use json_fields::read_value;
+use json_values::{BorrowedValue, Place, Scratch, read_kept};
 use kube_model::{Event, EventFault, Kind, ListGroup};
-use serde_json::Value;
 use std::alloc::Global;
 
 /// What happened to an object that is watched.
@@ -34,7 +33,7 @@ fn listed_in(kind: Kind) -> Option<ListGroup>
 }
 
 #[tactic(auto, unfolding(crate::specs::Event::ends_list))]
-fn ends_list(object: &Value) -> bool
+fn ends_list(object: &BorrowedValue<'_>) -> bool
     ensures { result ≡ ends_list (view object.now) }
 {
     let annotations = object
@@ -42,14 +41,14 @@ fn ends_list(object: &Value) -> bool
         .and_then(|metadata| metadata.get("annotations"));
     let end = annotations
         .and_then(|annotations| annotations.get("k8s.io/initial-events-end"))
-        .and_then(Value::as_str);
+        .and_then(BorrowedValue::as_str);
     match end {
         Some(text) => text == "true",
         None => false,
     }
 }
 
-fn bookmark_from(kind: Kind, object: &Value) -> Event
+fn bookmark_from(kind: Kind, object: &BorrowedValue<'_>) -> Event
     ensures { result ≡ bookmark_of kind (view object.now) }
 {
     match listed_in(kind) {
@@ -59,13 +58,13 @@ fn bookmark_from(kind: Kind, object: &Value) -> Event
 }
 
 /// The text of the member of this name, where it is one.
-fn text_in<'v>(value: &'v Value, name: &str) -> Option<&'v str>
+fn text_in<'v>(value: &'v BorrowedValue<'_>, name: &str) -> Option<&'v str>
     ensures { option_map (λ text. text.now) result ≡ text_in name.now (view value.now) }
 {
-    value.get(name).and_then(Value::as_str)
+    value.get(name).and_then(BorrowedValue::as_str)
 }
 
-fn watched(alloc: Global, change: EventType, line: &Value) -> Result<Event, EventFault>
+fn watched(alloc: Global, change: EventType, line: &BorrowedValue<'_>) -> Result<Event, EventFault>
     ensures { GivesEvent result (watched (says change) (get (codes "object") (view line.now))) }
 {
     let Some(object) = line.get("object") else {
@@ -85,7 +84,7 @@ fn watched(alloc: Global, change: EventType, line: &Value) -> Result<Event, Even
 }
 
 /// What a line of this type says.
-fn event_of_type(alloc: Global, name: &str, line: &Value) -> Result<Event, EventFault>
+fn event_of_type(alloc: Global, name: &str, line: &BorrowedValue<'_>) -> Result<Event, EventFault>
     ensures { GivesEvent result (of_type name.now (view line.now)) }
 {
     match name {
@@ -100,7 +99,7 @@ fn event_of_type(alloc: Global, name: &str, line: &Value) -> Result<Event, Event
 }
 
 #[tactic(auto, unfolding(crate::specs::Event::event_of))]
-fn event_from(alloc: Global, line: &Value) -> Result<Event, EventFault>
+fn event_from(alloc: Global, line: &BorrowedValue<'_>) -> Result<Event, EventFault>
     ensures { GivesEvent result (event_of (view line.now)) }
 {
     match text_in(line, "type") {
@@ -113,11 +112,11 @@ fn event_from(alloc: Global, line: &Value) -> Result<Event, EventFault>
 ///
 /// `NotJson` where it is no JSON text (RFC 8259) that is nested at most 127 deep; `NotEvent` where its type or its
 /// object isn't one that is read; `Field` with the path of the first field that is invalid.
-#[tactic(auto, unfolding(crate::specs::Event::event_of_line))]
 pub fn read_event(alloc: Global, line: &[u8]) -> Result<Event, EventFault>
     ensures { GivesEvent result (event_of_line line.now) }
 {
-    match read_value(alloc, line)? {
+    let mut scratch = Scratch::new(alloc);
+    match read_kept(alloc, &mut scratch, line, Place::Line)? {
         Some(value) => event_from(alloc, &value),
         None => Err(EventFault::NotJson),
     }

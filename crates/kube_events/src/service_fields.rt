@@ -1,6 +1,6 @@
 //! The fields of services.
 ghost use Rattle.std.specs.Prelude.{◌≡◌, IfOk};
-ghost use Rattle.serde_json.specs.View.{view};
+ghost use Rattle.json_values.specs.View.{view};
 ghost use Rattle.json_fields.specs.Reading.{Gives};
 ghost use Rattle.kube_events.specs.ServiceFields.{families_at, families_from, notes_in, notes_of};
 ghost use Rattle.kube_events.specs.ServiceFields.{request_of, traffic_of};
@@ -13,10 +13,10 @@ use ip_ranges::{AddressList, Family};
 use json_fields::{
     FieldFault, FromValue, labels, list, optional, require_object, tells, text, with_default,
 };
+use json_values::BorrowedValue;
 use kube_labels::{Labels, Text};
 use kube_model::{FamilyList, Key, Policy, PortList, Record, Service, Wanted, both};
 use mlb_base::{NoMemory, Sequence};
-use serde_json::Value;
 use std::alloc::Global;
 use std::marker::Model;
 
@@ -31,7 +31,7 @@ struct Notes {
 }
 
 #[tactic(auto, unfolding(crate::specs::ServiceFields::notes_of))]
-fn notes_from(alloc: Global, object: &Value) -> Result<Notes, FieldFault>
+fn notes_from(alloc: Global, object: &BorrowedValue<'_>) -> Result<Notes, FieldFault>
     ensures { Gives (λ x. x) result (notes_of (view object.now)) }
 {
     let annotations = labels(alloc, object, "metadata.annotations")?;
@@ -74,7 +74,7 @@ struct Request {
 }
 
 #[tactic(auto, unfolding(crate::specs::ServiceFields::request_of))]
-fn request_from(alloc: Global, object: &Value) -> Result<Request, FieldFault>
+fn request_from(alloc: Global, object: &BorrowedValue<'_>) -> Result<Request, FieldFault>
     ensures { Gives (λ x. x) result (request_of (view object.now)) }
 {
     let balancer = tells(alloc, object, "spec.type", "LoadBalancer")?;
@@ -89,7 +89,7 @@ fn request_from(alloc: Global, object: &Value) -> Result<Request, FieldFault>
 
 /// One or two distinct families. A list that is absent or empty means IPv4 alone.
 #[tactic(auto, unfolding(crate::specs::ServiceFields::families_at))]
-fn families(alloc: Global, object: &Value, path: &str) -> Result<FamilyList, FieldFault>
+fn families(alloc: Global, object: &BorrowedValue<'_>, path: &str) -> Result<FamilyList, FieldFault>
     ensures { Gives (λ x. x) result (families_at path.now (view object.now)) }
 {
     let named = list(alloc, object, path)?;
@@ -122,7 +122,7 @@ struct Traffic {
     ports: PortList,
 }
 
-fn traffic_from(alloc: Global, object: &Value) -> Result<Traffic, FieldFault>
+fn traffic_from(alloc: Global, object: &BorrowedValue<'_>) -> Result<Traffic, FieldFault>
     ensures { Gives (λ x. x) result (traffic_of (view object.now)) }
 {
     let families = in_turn(
@@ -167,7 +167,7 @@ impl FromValue for Ingress {
     ghost reading = { ingress_of };
 
     #[tactic(auto, unfolding(crate::specs::ServiceFields::ingress_of))]
-    fn from_value(alloc: Global, value: &Value) -> Result<Ingress, FieldFault> {
+    fn from_value(alloc: Global, value: &BorrowedValue<'_>) -> Result<Ingress, FieldFault> {
         require_object(alloc, value)?;
         let address = optional(alloc, value, "ip")?;
         Ok(Ingress { address })
@@ -189,7 +189,7 @@ fn addresses_in(alloc: Global, ingress: Sequence<Ingress>) -> Result<AddressList
 
 /// The addresses of the record.
 #[tactic(auto, unfolding(crate::specs::ServiceFields::recorded_of))]
-fn recorded(alloc: Global, object: &Value) -> Result<AddressList, FieldFault>
+fn recorded(alloc: Global, object: &BorrowedValue<'_>) -> Result<AddressList, FieldFault>
     ensures { Gives (λ x. x) result (recorded_of (view object.now)) }
 {
     let places = list(alloc, object, "status.loadBalancer.ingress")?;
@@ -208,7 +208,10 @@ pub(crate) struct ServiceSpec {
     holding: Record,
 }
 
-pub(crate) fn service_spec(alloc: Global, object: &Value) -> Result<ServiceSpec, FieldFault>
+pub(crate) fn service_spec(
+    alloc: Global,
+    object: &BorrowedValue<'_>,
+) -> Result<ServiceSpec, FieldFault>
     ensures { Gives service_with result (service_of (view object.now)) }
 {
     let asked = in_turn(notes_from(alloc, object), request_from(alloc, object));

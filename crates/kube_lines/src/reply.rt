@@ -1,12 +1,11 @@
 //! The replies to puts.
 ghost use Rattle.std.specs.Prelude.{◌≡◌};
-ghost use Rattle.serde_json.specs.View.{view};
+ghost use Rattle.json_values.specs.View.{view};
 ghost use Rattle.kube_lines.specs.ReplyLines.{GivesReply, reply_in, reply_of, reply_named, newer};
 
-use json_fields::read_value;
+use json_values::{BorrowedValue, Scratch, read_whole};
 use kube_model::{Put, PutReply};
 use mlb_base::NoMemory;
-use serde_json::Value;
 use std::alloc::Global;
 use thiserror::Error;
 
@@ -41,11 +40,11 @@ fn newer(put: &Put, version: u64) -> Option<PutReply>
     }
 }
 
-fn reply_named(put: &Put, name: &str, value: &Value) -> Option<PutReply>
+fn reply_named(put: &Put, name: &str, value: &BorrowedValue<'_>) -> Option<PutReply>
     ensures { result ≡ reply_named put.now (view value.now) name.now }
 {
     match name {
-        "ok" => newer(put, value.get("version").and_then(Value::as_u64)?),
+        "ok" => newer(put, value.get("version").and_then(BorrowedValue::as_u64)?),
         "stale" => Some(PutReply::Stale),
         "missing" => Some(PutReply::Missing),
         "unknown" => Some(PutReply::Unknown),
@@ -53,10 +52,10 @@ fn reply_named(put: &Put, name: &str, value: &Value) -> Option<PutReply>
     }
 }
 
-fn reply_in(put: &Put, value: &Value) -> Option<PutReply>
+fn reply_in(put: &Put, value: &BorrowedValue<'_>) -> Option<PutReply>
     ensures { result ≡ reply_in put.now (view value.now) }
 {
-    let name = value.get("reply").and_then(Value::as_str)?;
+    let name = value.get("reply").and_then(BorrowedValue::as_str)?;
     reply_named(put, name, value)
 }
 
@@ -65,7 +64,8 @@ fn reply_in(put: &Put, value: &Value) -> Option<PutReply>
 pub fn read_reply(alloc: Global, put: &Put, line: &[u8]) -> Result<PutReply, ReplyFault>
     ensures { GivesReply result (reply_of put.now line.now) }
 {
-    match read_value(alloc, line)? {
+    let mut scratch = Scratch::new(alloc);
+    match read_whole(alloc, &mut scratch, line)? {
         Some(value) => reply_in(put, &value).ok_or(ReplyFault::BadReply),
         None => Err(ReplyFault::BadReply),
     }

@@ -3,14 +3,14 @@ ghost use Rattle.kube_model.specs.AllocationFields.{allocation_of};
 
 use crate::pool::Allocation;
 use json_fields::{FieldFault, FromValue, list, number_or, require_object};
-use serde_json::Value;
+use json_values::BorrowedValue;
 use std::alloc::Global;
 
 impl FromValue for Allocation {
     ghost reading = { allocation_of };
 
     #[tactic(auto, unfolding(crate::specs::AllocationFields::allocation_of))]
-    fn from_value(alloc: Global, value: &Value) -> Result<Allocation, FieldFault> {
+    fn from_value(alloc: Global, value: &BorrowedValue<'_>) -> Result<Allocation, FieldFault> {
         require_object(alloc, value)?;
         let priority = number_or(alloc, value, "priority", 0, 2147483647, 0)?;
         let namespaces = list(alloc, value, "namespaces")?;

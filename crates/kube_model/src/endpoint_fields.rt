@@ -4,7 +4,7 @@ ghost use Rattle.kube_model.specs.EndpointFields.{endpoint_of, usable_of};
 
 use crate::slice::Endpoint;
 use json_fields::{FieldFault, FromValue, optional, require_object};
-use serde_json::Value;
+use json_values::BorrowedValue;
 use std::alloc::Global;
 
 /// Whether an endpoint takes traffic. What isn't known of it counts as so.
@@ -18,7 +18,7 @@ impl FromValue for Endpoint {
     ghost reading = { endpoint_of };
 
     #[tactic(auto, unfolding(crate::specs::EndpointFields::endpoint_of))]
-    fn from_value(alloc: Global, value: &Value) -> Result<Endpoint, FieldFault> {
+    fn from_value(alloc: Global, value: &BorrowedValue<'_>) -> Result<Endpoint, FieldFault> {
         require_object(alloc, value)?;
         let node = optional(alloc, value, "nodeName")?;
         let ready = optional(alloc, value, "conditions.ready")?;

@@ -4,7 +4,7 @@ ghost use Rattle.json_fields.specs.Reading.{number_in, in_range};
 ghost use Rattle.kube_model.specs.Lengths.{IsLengthV4, IsLengthV6};
 
 use json_fields::{FieldFault, FromValue, or_faulty};
-use serde_json::Value;
+use json_values::BorrowedValue;
 use std::alloc::Global;
 use std::marker::Model;
 
@@ -71,7 +71,7 @@ impl FromValue for LengthV4 {
     ghost reading = { number_in 1 32 };
 
     #[tactic(auto, unfolding(json_fields::specs::Reading::number_in))]
-    fn from_value(alloc: Global, value: &Value) -> Result<LengthV4, FieldFault> {
+    fn from_value(alloc: Global, value: &BorrowedValue<'_>) -> Result<LengthV4, FieldFault> {
         or_faulty(alloc, value.as_u64().and_then(length_v4_from))
     }
 }
@@ -139,7 +139,7 @@ impl FromValue for LengthV6 {
     ghost reading = { number_in 0 128 };
 
     #[tactic(auto, unfolding(json_fields::specs::Reading::number_in))]
-    fn from_value(alloc: Global, value: &Value) -> Result<LengthV6, FieldFault> {
+    fn from_value(alloc: Global, value: &BorrowedValue<'_>) -> Result<LengthV6, FieldFault> {
         or_faulty(alloc, value.as_u64().and_then(length_v6_from))
     }
 }

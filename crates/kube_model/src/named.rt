@@ -5,7 +5,7 @@ ghost use Rattle.kube_model.specs.Named.{protocol_named, policy_named, protocol_
 use crate::port::Protocol;
 use crate::service::Policy;
 use json_fields::{FieldFault, FromValue, or_faulty};
-use serde_json::Value;
+use json_values::BorrowedValue;
 use std::alloc::Global;
 
 fn protocol_named(name: &str) -> Option<Protocol>
@@ -23,7 +23,7 @@ impl FromValue for Protocol {
     ghost reading = { protocol_of };
 
     #[tactic(auto, unfolding(crate::specs::Named::protocol_of))]
-    fn from_value(alloc: Global, value: &Value) -> Result<Protocol, FieldFault> {
+    fn from_value(alloc: Global, value: &BorrowedValue<'_>) -> Result<Protocol, FieldFault> {
         or_faulty(alloc, value.as_str().and_then(protocol_named))
     }
 }
@@ -42,7 +42,7 @@ impl FromValue for Policy {
     ghost reading = { policy_of };
 
     #[tactic(auto, unfolding(crate::specs::Named::policy_of))]
-    fn from_value(alloc: Global, value: &Value) -> Result<Policy, FieldFault> {
+    fn from_value(alloc: Global, value: &BorrowedValue<'_>) -> Result<Policy, FieldFault> {
         or_faulty(alloc, value.as_str().and_then(policy_named))
     }
 }

@@ -1,6 +1,6 @@
 //! The fields of what a fence is told.
 ghost use Rattle.std.specs.Prelude.{◌≡◌};
-ghost use Rattle.serde_json.specs.View.{view};
+ghost use Rattle.json_values.specs.View.{view};
 ghost use Rattle.json_fields.specs.Reading.{Gives};
 ghost use Rattle.put_fence.specs.Fields.{input_by, input_of, lease_of, service_version_of};
 ghost use Rattle.put_fence.specs.Fields.{told_named, told_of, version_in};
@@ -12,7 +12,7 @@ use json_fields::{
     required_number, text,
 };
 use kube_model::Key;
-use serde_json::Value;
+use json_values::BorrowedValue;
 use std::alloc::Global;
 
 /// The greatest version.
@@ -57,7 +57,7 @@ impl FromValue for Told {
     ghost reading = { told_of };
 
     #[tactic(auto, unfolding(crate::specs::Fields::told_of))]
-    fn from_value(alloc: Global, value: &Value) -> Result<Told, FieldFault> {
+    fn from_value(alloc: Global, value: &BorrowedValue<'_>) -> Result<Told, FieldFault> {
         or_faulty(alloc, value.as_str().and_then(told_named))
     }
 }
@@ -66,7 +66,7 @@ impl FromValue for ServiceVersion {
     ghost reading = { service_version_of };
 
     #[tactic(auto, unfolding(crate::specs::Fields::service_version_of))]
-    fn from_value(alloc: Global, value: &Value) -> Result<ServiceVersion, FieldFault> {
+    fn from_value(alloc: Global, value: &BorrowedValue<'_>) -> Result<ServiceVersion, FieldFault> {
         require_object(alloc, value)?;
         let namespace = required_name(alloc, value, "namespace")?;
         let name = required_name(alloc, value, "name")?;
@@ -80,7 +80,7 @@ impl FromValue for Lease {
     ghost reading = { lease_of };
 
     #[tactic(auto, unfolding(crate::specs::Fields::lease_of))]
-    fn from_value(alloc: Global, value: &Value) -> Result<Lease, FieldFault> {
+    fn from_value(alloc: Global, value: &BorrowedValue<'_>) -> Result<Lease, FieldFault> {
         require_object(alloc, value)?;
         let version = required_number(alloc, value, "version", 1, LAST)?;
         let holder = text(alloc, value, "holder")?;
@@ -94,13 +94,13 @@ impl FromValue for Lease {
 }
 
 /// The version that is told.
-fn version_in(alloc: Global, value: &Value) -> Result<u64, FieldFault>
+fn version_in(alloc: Global, value: &BorrowedValue<'_>) -> Result<u64, FieldFault>
     ensures { Gives (λ x. x) result (version_in (view value.now)) }
 {
     required_number(alloc, value, "version", 1, LAST)
 }
 
-fn input_by(alloc: Global, told: Told, value: &Value) -> Result<Input, FieldFault>
+fn input_by(alloc: Global, told: Told, value: &BorrowedValue<'_>) -> Result<Input, FieldFault>
     ensures { Gives (λ x. x) result (input_by told (view value.now)) }
 {
     let answer = match told {
@@ -132,7 +132,7 @@ impl FromValue for Input {
     ghost reading = { input_of };
 
     #[tactic(auto, unfolding(crate::specs::Fields::input_of))]
-    fn from_value(alloc: Global, value: &Value) -> Result<Input, FieldFault> {
+    fn from_value(alloc: Global, value: &BorrowedValue<'_>) -> Result<Input, FieldFault> {
         require_object(alloc, value)?;
         let told: Told = required(alloc, value, "fence")?;
         input_by(alloc, told, value)

@@ -1,5 +1,5 @@
 use Rattle.std.proofs.Common.{sym, ◌∙◌}
-use Rattle.serde_json.specs.View.{view}
+use Rattle.json_values.specs.View.{view}
 use Rattle.admission_reviews.proofs.Found.{found}
 use Rattle.admission_reviews.proofs.review.review_from.Goals as goal
 

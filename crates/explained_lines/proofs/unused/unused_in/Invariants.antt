@@ -1,5 +1,5 @@
 use Rattle.std.proofs.Common.{◌≡◌, ◌++◌, drop, filter, map}
-use Rattle.serde_json.specs.View.{view}
+use Rattle.json_values.specs.View.{view}
 use Rattle.explained_lines.specs.Unused.{stands_in_spec, spec_path}
 use Rattle.explained_lines.proofs.unused.unused_in.Given as goal
 

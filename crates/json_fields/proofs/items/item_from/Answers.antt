@@ -1,6 +1,6 @@
 use Rattle.std.proofs.Common.{◌≡◌, refl, rules}
 use Rattle.std.proofs.lemmas.Result.{err_from_is_err_and}
-use Rattle.serde_json.specs.View.{view}
+use Rattle.json_values.specs.View.{view}
 use Rattle.json_fields.specs.Path.{item_place}
 use Rattle.json_fields.proofs.Loop.{Fails-within}
 use Rattle.json_fields.proofs.items.item_from.Goals as goal

@@ -1,4 +1,4 @@
-use Rattle.std.proofs.Common.{◌≡◌, refl, rules, string_bytes, ◌∙◌, sym}
+use Rattle.std.proofs.Common.{◌≡◌, refl, rules, ◌∙◌, sym}
 use Rattle.std.proofs.lemmas.Result.{err_from_is_err_and}
 use Rattle.kube_labels.specs.Pairs.{with_pair}
 use Rattle.json_fields.proofs.PairLoop.{passes_null, refuses, takes, is_done}
@@ -17,7 +17,7 @@ returns-in_default c =
 pub loop-name-preserved : goal.loop-name-preserved
 loop-name-preserved c =
     let so_far = rw c.in-Some.ensures.steps at c.loop-name.invariant in
-    let named : c.set_text.new.labels ≡ with_pair (string_bytes c.in-Some.name.now) c.in-Some-as_str.text.now c.loop-name.labels = search rules in
+    let named : c.set_text.new.labels ≡ with_pair (c.in-Some.name.now.now) c.in-Some-as_str.text.now c.loop-name.labels = search rules in
     rw named (sym (takes c.loop-name.labels c.in-Some.name.now c.in-Some.value.now c.next.new.self c.in-Some-as_str.text.now (search rules) (search rules))
     ∙ so_far)
 

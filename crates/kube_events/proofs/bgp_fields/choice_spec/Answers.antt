@@ -1,6 +1,6 @@
 use Rattle.std.proofs.Common.{List, ℕ, Ok, Err}
 use Rattle.std.proofs.lemmas.Result.{err_from_is_err_and}
-use Rattle.serde_json.specs.View.{view}
+use Rattle.json_values.specs.View.{view}
 use Rattle.kube_model.specs.declared.selector.SelectorText.{SelectorText}
 use Rattle.kube_events.specs.Fields.{pools_field, pool_selectors_field, node_selectors_field}
 use Rattle.kube_events.specs.BgpFields.{peers_field, choice_spec_of}

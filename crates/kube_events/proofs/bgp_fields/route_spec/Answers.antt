@@ -1,6 +1,6 @@
 use Rattle.std.proofs.Common.{◌≡◌, Ok, refl}
 use Rattle.std.proofs.lemmas.Result.{err_from_is_err_and}
-use Rattle.serde_json.specs.View.{view}
+use Rattle.json_values.specs.View.{view}
 use Rattle.kube_events.specs.BgpFields.{length_field, length_v6_field, route_spec_of}
 use Rattle.kube_model.proofs.Fails.{Fails-bind}
 use Rattle.kube_events.proofs.bgp_fields.route_spec.Goals as goal

@@ -1,6 +1,6 @@
 use Rattle.std.proofs.Common.{Result, Ok, Err, refl, sym, subst, ◌∙◌}
 use Rattle.std.proofs.lemmas.Result.{err_from_is_err_and}
-use Rattle.serde_json.specs.View.{view}
+use Rattle.json_values.specs.View.{view}
 use Rattle.json_fields.specs.Path.{Path}
 use Rattle.json_fields.specs.Reading.{Fails}
 use Rattle.kube_model.specs.declared.key.Key.{Key}

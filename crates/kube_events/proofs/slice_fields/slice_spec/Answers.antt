@@ -1,6 +1,6 @@
 use Rattle.std.proofs.Common.{refl, sym, ◌∙◌}
 use Rattle.std.proofs.lemmas.Result.{err_from_is_err_and}
-use Rattle.serde_json.specs.View.{view}
+use Rattle.json_values.specs.View.{view}
 use Rattle.kube_model.proofs.Fails.{Fails-bind}
 use Rattle.kube_events.proofs.Groups.{slice_grouped}
 use Rattle.kube_events.proofs.slice_fields.slice_spec.Goals as goal

@@ -1,4 +1,4 @@
-use Rattle.std.proofs.Common.{◌≡◌, ◌-◌, ◌<◌, [], ◌∷◌, length, Some, None, refl, sym, ap, ap₂, ◌∙◌, arith, rules}
+use Rattle.std.proofs.Common.{◌≡◌, ◌-◌, ◌<◌, List, [], ◌∷◌, length, Some, None, refl, sym, ap, ap₂, ◌∙◌, arith, rules}
 use Rattle.json.specs.Token.{Token}
 use Rattle.json.specs.Json.{parse_map, after_end_array, read_key, items, members, value}
 use Rattle.json.specs.Reads.{token_of}
@@ -8,7 +8,7 @@ use Rattle.serde_json.specs.Read.{of_json, of_items, converted}
 use Rattle.serde_json.specs.View.{number_view}
 use Rattle.json_values.specs.Places.{keep_at}
 use Rattle.json_values.specs.View.{view, items_view, put_each}
-use Rattle.json_values.specs.declared.value.BorrowedValue.{String, Number, Bool, Null, the_lemmas}
+use Rattle.json_values.specs.declared.value.BorrowedValue.{BorrowedValue, String, Number, Bool, Null, the_lemmas}
 use Rattle.json_values.proofs.Views.{view-Array, view-Object, put_each-push}
 use Rattle.json_values.proofs.Keeping.{ascend_put, put_kept, put_dropped, kept-object, kept-array, kept-string, kept-number, kept-boolean, kept-null, kept-no_members}
 use Rattle.json_values.proofs.Loops.{converted-array, converted-object, item_read, item_refused, items_over, member_read, member_refused, key_refused, members_over, items_before, items_before-no_items, one_more_item, none_before}
@@ -132,7 +132,7 @@ read_items-items-preserved t c =
       n - 1,
       omega (arith, l.invariant.1),
       l.invariant.2 ∙ ap (parse_map (items_before l.found.items)) turn ∙ one_more_item l.found.items v _
-          ∙ ap (λ vs. parse_map (items_before vs) (converted of_items (items p (n - 1) r))) (sym c.in_ok-push.ensures.items),
+          ∙ ap (λ vs. parse_map (items_before vs) (converted of_items (items p (n - 1) r))) (sym {A = List BorrowedValue} c.in_ok-push.ensures.items),
       omega (arith, l.invariant.3),
     )
 

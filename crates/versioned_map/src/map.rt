@@ -7,13 +7,13 @@ ghost use Rattle.std.specs.List.Sorted.{IsStrictlySortedBy};
 ghost use Rattle.std.specs.Map.Iter.{ShowsInOrder, deref_pair};
 ghost use Rattle.std.specs.Fn.{FnOnceReturnsAtMut};
 ghost use Rattle.versioned_map.specs.declared.map.Versioned.{Versioned};
-ghost use Rattle.versioned_map.specs.Objects.{version_at, object_at, shown, shown_note, expired};
-ghost use Rattle.versioned_map.specs.Objects.{listed, Amends};
+ghost use Rattle.versioned_map.specs.Objects.{held_at, version_at, object_at, shown, shown_note};
+ghost use Rattle.versioned_map.specs.Objects.{expired, listed, Amends};
 
 use mlb_base::{NoMemory, TryCopy};
 use std::alloc::Global;
 use std::collections::BTreeMap;
-use std::collections::btree_map::Iter;
+use std::collections::btree_map::{Entry, Iter};
 use std::marker::Model;
 
 /// An object, at the version that it was last shown with; 0 where it wasn't shown since its watch
@@ -101,6 +101,13 @@ impl<K: Ord, T> VersionedMap<K, T> {
         self.held.iter()
     }
 
+    /// What is held under the key, with its version.
+    pub fn held(&self, key: &K) -> Option<&Versioned<T>>
+        ensures { option_copied result ≡ held_at K.cmp self.now key.now }
+    {
+        self.held.get(key)
+    }
+
     /// The version that is held for the key, and 0 where nothing is held under it.
     pub fn version_of(&self, key: &K) -> u64
         ensures { result ≡ version_at K.cmp self.now key.now }
@@ -121,13 +128,24 @@ impl<K: Ord + Drop, T: Drop> VersionedMap<K, T> {
         ensures ok { OnOk result (self.new ≡ shown K.cmp self.old key version object) }
         ensures err { OnErr result (self.new ≡ self.old) }
     {
-        if version <= self.version_of(&key) {
+        if version == 0 {
             return Ok(Shown::PassedOver { object });
         }
-        let before = self.held.insert(key, Versioned { version, object })?;
-        Ok(Shown::Held {
-            before: object_in(before),
-        })
+        match self.held.entry(key)? {
+            Entry::Occupied(mut entry) => {
+                if version <= entry.get().version {
+                    return Ok(Shown::PassedOver { object });
+                }
+                let before = entry.insert(Versioned { version, object });
+                Ok(Shown::Held {
+                    before: Some(before.object),
+                })
+            }
+            Entry::Vacant(entry) => {
+                entry.insert(Versioned { version, object });
+                Ok(Shown::Held { before: None })
+            }
+        }
     }
 
     /// The object is held at this version, in place of what was there. Where memory ran out the map

@@ -14,10 +14,10 @@ as_kept line found same = sym (kept_if (value_of_line line)) ∙ ap event_if (sy
 
 pub returns-in-Some : goal.returns-in-Some
 returns-in-Some c =
-    let same = rw c.in-Some.is at c.in_ok-read_kept.ensures in
+    let same = rw c.in-Some.is at c.in_ok-value.ensures in
     rw (as_kept c.args.line.now (Some (view c.in-Some.value)) same) c.event_from.ensures
 
-pub returns-in-None : goal.returns-in-None
-returns-in-None c =
-    let same = rw c.in-None.is at c.in_ok-read_kept.ensures in
+pub returns : goal.returns
+returns c =
+    let same = rw c.in-None.is at c.in_ok-value.ensures in
     rw (as_kept c.args.line.now None same)

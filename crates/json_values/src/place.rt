@@ -8,7 +8,7 @@ ghost use Rattle.json_values.specs.Places.{keep_at};
 pub enum Place {
     /// A value that is read whole.
     Whole,
-    /// The line itself: `type`, `object`, and the members of a watch of lanes.
+    /// The line itself: its type, its object, and what lines of members and of frames tell.
     Line,
     /// The object of an event.
     Object,

@@ -180,13 +180,12 @@ fn read_members<'a>(
 {
     let mut found = Vec::new(alloc);
     'members: while let Some(name) = reader.next_key()? {
-        match place.member(name) {
-            Some(inner) => {
-                let member = read(alloc, reader, inner, depth)?;
-                found.push((name, member))?;
-            }
-            None => skip(reader, depth)?,
-        }
+        let Some(inner) = place.member(name) else {
+            skip(reader, depth)?;
+            continue;
+        };
+        let member = read(alloc, reader, inner, depth)?;
+        found.push((name, member))?;
     }
     Ok(found)
 }

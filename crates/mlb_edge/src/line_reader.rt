@@ -28,12 +28,10 @@ fn newline_at(bytes: &[u8], from: usize) -> Option<usize>
     ensures before { IfSome result (λ i. HasNoNewline (take i bytes.now)) }
     ensures none { IfNone result (HasNoNewline bytes.now) }
 {
-    for i in from..bytes.len() {
-        if bytes[i] == NEWLINE {
-            return Some(i);
-        }
+    match memchr::memchr(NEWLINE, &bytes[from..]) {
+        Some(i) => Some(from + i),
+        None => None,
     }
-    None
 }
 
 /// Blanks, tabs and 0x0D alone.

@@ -1,4 +1,4 @@
-use Rattle.std.proofs.Common.{◌≡◌, ◌-◌, ◌<◌, [], ◌∷◌, length, Some, None, refl, sym, ap, ap₂, ◌∙◌, arith, rules}
+use Rattle.std.proofs.Common.{◌≡◌, ◌-◌, ◌<◌, List, [], ◌∷◌, length, Some, None, refl, sym, ap, ap₂, ◌∙◌, arith, rules}
 use Rattle.json.specs.Token.{Token}
 use Rattle.json.specs.Json.{parse_map, after_end_array, read_key, items, members, value}
 use Rattle.json.specs.Reads.{token_of}
@@ -8,7 +8,7 @@ use Rattle.serde_json.specs.Read.{of_json, of_items, converted}
 use Rattle.serde_json.specs.View.{number_view}
 use Rattle.json_values.specs.Places.{keep_at}
 use Rattle.json_values.specs.View.{view, items_view, put_each}
-use Rattle.json_values.specs.declared.value.BorrowedValue.{String, Number, Bool, Null, the_lemmas}
+use Rattle.json_values.specs.declared.value.BorrowedValue.{BorrowedValue, String, Number, Bool, Null, the_lemmas}
 use Rattle.json_values.proofs.Views.{view-Array, view-Object, put_each-push}
 use Rattle.json_values.proofs.Keeping.{ascend_put, put_kept, put_dropped, kept-object, kept-array, kept-string, kept-number, kept-boolean, kept-null, kept-no_members}
 use Rattle.json_values.proofs.Loops.{converted-array, converted-object, item_read, item_refused, items_over, member_read, member_refused, key_refused, members_over, items_before, items_before-no_items, one_more_item, none_before}
@@ -132,7 +132,7 @@ read_items-items-preserved t c =
       n - 1,
       omega (arith, l.invariant.1),
       l.invariant.2 ∙ ap (parse_map (items_before l.found.items)) turn ∙ one_more_item l.found.items v _
-          ∙ ap (λ vs. parse_map (items_before vs) (converted of_items (items p (n - 1) r))) (sym c.in_ok-push.ensures.items),
+          ∙ ap (λ vs. parse_map (items_before vs) (converted of_items (items p (n - 1) r))) (sym {A = List BorrowedValue} c.in_ok-push.ensures.items),
       omega (arith, l.invariant.3),
     )
 
@@ -155,8 +155,8 @@ read_members-returns-in_err-name-clause-invalid t c refused =
     let l = c.members in
     l.invariant.3 ∙ key_refused p l.invariant.2 l.invariant.0 l.reader c.in_err-name.ensures.value
 
-pub read_members-returns-in_err-member-in-Some-member-clause-invalid : goal.read_members-returns-in_err-member-in-Some-member-clause-invalid
-read_members-returns-in_err-member-in-Some-member-clause-invalid t c refused =
+pub read_members-returns-in_err-member-clause-invalid : goal.read_members-returns-in_err-member-clause-invalid
+read_members-returns-in_err-member-clause-invalid t c refused =
     let p = value c.args.depth in
     let l = c.members in
     let k = c.in-Some.name.now in
@@ -164,17 +164,17 @@ read_members-returns-in_err-member-in-Some-member-clause-invalid t c refused =
     let named : read_key l.reader ≡ Some (Some k, s) = grind arith in
     l.invariant.3 ∙ member_refused p l.invariant.2 l.invariant.0 k l.reader s named (c.read.ensures.invalid (grind arith))
 
-pub read_members-returns-in_err-skip-in-None-clause-invalid : goal.read_members-returns-in_err-skip-in-None-clause-invalid
-read_members-returns-in_err-skip-in-None-clause-invalid t c refused =
+pub read_members-returns-in_err-skip-clause-invalid : goal.read_members-returns-in_err-skip-clause-invalid
+read_members-returns-in_err-skip-clause-invalid t c refused =
     let p = value c.args.depth in
     let l = c.members in
     let k = c.in-Some.name.now in
     let s = c.next_key.new.self in
     let named : read_key l.reader ≡ Some (Some k, s) = grind arith in
-    l.invariant.3 ∙ member_refused p l.invariant.2 l.invariant.0 k l.reader s named c.in_err-skip-in-None.ensures.invalid
+    l.invariant.3 ∙ member_refused p l.invariant.2 l.invariant.0 k l.reader s named c.in_err-skip.ensures.invalid
 
-pub read_members-members-preserved : goal.read_members-members-preserved
-read_members-members-preserved t c =
+pub read_members-members-preserved-in_default-member : goal.read_members-members-preserved-in_default-member
+read_members-members-preserved-in_default-member t c =
     let p = value c.args.depth in
     let l = c.members in
     let n = l.invariant.0 in
@@ -183,7 +183,7 @@ read_members-members-preserved t c =
     let k = c.in-Some.name.now in
     let s = c.next_key.new.self in
     let named : read_key l.reader ≡ Some (Some k, s) = grind arith in
-    let done = c.in_ok-skip-in-None.ensures in
+    let done = c.in_ok-skip.ensures in
     let d = done.ok.0 in
     let r = c.skip.new.reader in
     let less = read_key-shorter l.reader (Some k) s named in
@@ -193,12 +193,12 @@ read_members-members-preserved t c =
       put k d old,
       l.invariant.3 ∙ member_read p old n k l.reader s r d (omega (arith, l.invariant.1)) named done.ok.1,
       omega (arith, l.invariant.4),
-      l.invariant.5 ∙ sym (put_dropped keep k d old (sym c.in-None.ensures)),
+      l.invariant.5 ∙ sym (put_dropped keep k d old (sym c.in_default-member.ensures)),
       ascend_put k d old l.invariant.6,
     )
 
-pub read_members-members-preserved-in-Continue-branch-4 : goal.read_members-members-preserved-in-Continue-branch-4
-read_members-members-preserved-in-Continue-branch-4 t c =
+pub read_members-members-preserved : goal.read_members-members-preserved
+read_members-members-preserved t c =
     let p = value c.args.depth in
     let l = c.members in
     let n = l.invariant.0 in
@@ -208,8 +208,8 @@ read_members-members-preserved-in-Continue-branch-4 t c =
     let k = c.in-Some.name.now in
     let s = c.next_key.new.self in
     let named : read_key l.reader ≡ Some (Some k, s) = grind arith in
-    let done = c.in_ok-member-in-Some-member.ensures in
-    let v = c.in_ok-member-in-Some-member.member in
+    let done = c.in_ok-member.ensures in
+    let v = c.in_ok-member.member in
     let d = done.ok.0 in
     let r = c.read.new.reader in
     let less = read_key-shorter l.reader (Some k) s named in
@@ -219,7 +219,7 @@ read_members-members-preserved-in-Continue-branch-4 t c =
       put k d old,
       l.invariant.3 ∙ member_read p old n k l.reader s r d (omega (arith, l.invariant.1)) named done.ok.1,
       omega (arith, l.invariant.4),
-      ap (λ ms. put_each ms no_members) c.in_ok-push-in-Some-member.ensures.items ∙ put_each-push l.found.items (c.in-Some.name, v) no_members
+      ap (λ ms. put_each ms no_members) c.in_ok-push.ensures.items ∙ put_each-push l.found.items (c.in-Some.name, v) no_members
           ∙ ap₂ (put k) done.ok.2 l.invariant.5 ∙ sym (put_kept keep inner k d old (sym c.in-Some-member.ensures) l.invariant.6),
       ascend_put k d old l.invariant.6,
     )

@@ -5,9 +5,9 @@ ghost use Rattle.put_fence.specs.Fields.{input_of};
 ghost use Rattle.fence_lines.specs.Lines.{GivesInput, input_of_line};
 
 use json_fields::{FieldFault, FromValue};
+use json_values::{BorrowedValue, Scratch, read_whole};
 use kube_model::EventFault;
 use put_fence::Input;
-use json_values::{BorrowedValue, Scratch, read_whole};
 use std::alloc::Global;
 
 fn input_in(alloc: Global, value: &BorrowedValue<'_>) -> Result<Input, FieldFault>

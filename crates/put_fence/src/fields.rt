@@ -11,8 +11,8 @@ use json_fields::{
     FieldFault, FromValue, list, or_faulty, require_object, required, required_name,
     required_number, text,
 };
-use kube_model::Key;
 use json_values::BorrowedValue;
+use kube_model::Key;
 use std::alloc::Global;
 
 /// The greatest version.

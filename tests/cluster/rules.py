@@ -14,6 +14,7 @@ from typing import Any, Literal, NamedTuple
 HELD_AS, FROM_POOL = "metallb.io/ip-held-as", "metallb.io/ip-allocated-from-pool"
 SHARED, ADDRESSES = "metallb.io/allow-shared-ip", "metallb.io/loadBalancerIPs"
 POOL = "metallb.io/address-pool"
+OLD, NEW = "metallb.universe.tf/", "metallb.io/"  # MetalLB's annotations, before 0.14.9 and since
 EXCLUDED = "node.kubernetes.io/exclude-from-external-load-balancers"
 MAPPED = (0xFFFF << 32, (0xFFFF << 32) + 0xFFFFFFFF)
 Json = dict[str, Any]
@@ -324,6 +325,13 @@ def record_of(service: Json) -> Record:
                   notes.get(HELD_AS, ""))
 
 
+def asked_by(service: Json, name: str) -> str:
+    """What a service asks for by an annotation, else by that of before (docs/BRIDGE.md)."""
+    notes = service["metadata"].get("annotations") or {}
+    found: str = notes.get(name, notes.get(OLD + name.removeprefix(NEW), ""))
+    return found
+
+
 def is_balancer(service: Json) -> bool:
     return bool(service["spec"].get("type") == "LoadBalancer")
 
@@ -346,7 +354,7 @@ def terms_of(service: Json) -> Terms:
     local = spec.get("externalTrafficPolicy") == "Local"
     pairs = tuple(sorted((spec.get("selector") or {}).items()))
     backend = (metadata["namespace"], pairs) if local else None
-    key = (metadata.get("annotations") or {}).get(SHARED, "")
+    key = asked_by(service, SHARED)
     return Terms(key, tuple(sorted(ports)), backend)
 
 
@@ -438,7 +446,7 @@ def eligible(config: Config, service: Json, namespace: Labels) -> list[Pool]:
 
 def asked_of(service: Json) -> list[Address] | Literal[False] | None:
     """The addresses asked for: None where none are, and False where they can't be read."""
-    text = (service["metadata"].get("annotations") or {}).get(ADDRESSES, "")
+    text = asked_by(service, ADDRESSES)
     parts = [part.strip(" \t") for part in text.split(",")]
     if not text:
         parts = [service["spec"].get("loadBalancerIP") or ""]
@@ -476,7 +484,7 @@ def choose(claims: Claims, config: Config, lb_class: str | None, key: Key, servi
         return "request-unreadable", NOTHING
     if asked is not None and not one_of_each(asked, options):
         return "request-families", NOTHING
-    wanted = (service["metadata"].get("annotations") or {}).get(POOL, "")
+    wanted = asked_by(service, POOL)
     pool_asked = next((pool for pool in config.pools if pool.name == wanted), None)
     if wanted and pool_asked is None:
         return "pool-unknown", NOTHING

@@ -7,7 +7,7 @@ controller, and the built speaker for those of speakers.
     python3 tests/cluster/sim --seed S --trace FILE
     python3 tests/cluster/sim --seed S --shrink FILE
     python3 tests/cluster/sim --history FILE [--trace FILE]
-    python3 tests/cluster/sim --planted [NAME,..] [--minutes M | --check] [--renew]
+    python3 tests/cluster/sim --planted [NAME,..] [--built FOLDER] [--minutes M | --check] [--renew]
     python3 tests/cluster/sim --check [--renew]
 
 The bridge's own code runs on an event loop whose time is the history's, against the API server of
@@ -17,6 +17,10 @@ BGP sessions go over a network of the history (lan.py). One seed after the other
 minutes, of the clock or of the processor, by N processes. Each five minutes, and at the end, a line
 tells how far it came: what all processes took is counted, the programs too. A difference is told
 with its seed, and ends nothing; the status is 1 then.
+
+What is judged: which addresses services get, lose and wait for; which requests are made, by the
+rights of deploy/; what a written history says must be by a time: who has an address, what the
+operator was told, how many requests were made.
 
 `--trace` keeps what is noted. `--shrink` leaves out troubles of the one seed as long as the same
 kind of difference stays, and writes what is left as a history to FILE. `--history` runs such a
@@ -39,7 +43,7 @@ if os.environ.get("PYTHONHASHSEED") != "0":
     os.execve(sys.executable, [sys.executable, *sys.orig_argv[1:]],
               {**os.environ, "PYTHONHASHSEED": "0"})
 HERE = pathlib.Path(__file__).resolve().parent
-sys.path[:0] = [str(HERE), str(HERE.parent), str(HERE.parents[1])]
+sys.path[:0] = [str(HERE), str(HERE.parent), str(HERE.parents[1]), str(HERE.parents[1] / "deploy")]
 import command
 
 sys.exit(command.main(sys.argv[1:]))

@@ -24,6 +24,9 @@ BOTH_ANNOUNCE = 2.0
 # runs, each announces what it is to: until a node is gone (1.5 s), or begins, having heard the
 # others, and so many more until its program took note.
 NOT_AS_MEANT = 5.0
+# Seconds after which a program that stands still doesn't serve: a lane is probed after 20 s without
+# a line, it is looked each second, and what isn't taken for 10 s shows it.
+HANGS = 35.0
 LISTS = {"IPAddressPool": CONFIG, "Service": ("Service",), "EndpointSlice": ("EndpointSlice",),
          "Node": ("Node",), "Namespace": ("Namespace",)}
 SEEN = {*CONFIG, "Service", "EndpointSlice", "Node", "Namespace"}
@@ -123,7 +126,10 @@ class Air:
         """Where all nodes that run hear each other, and were shown the same for some time, each
         announces what it is to."""
         first = runs[0][1] if runs else None
-        all_run = {run.process for run, _ in runs} == set(self.crew.bridges) and len(runs) > 1
+        hang = {run.process for run in self.seen if run.frozen and not run.over
+                and self.world.now - run.stands_since > HANGS}
+        running = {run.process for run, _ in runs}
+        all_run = running == set(self.crew.bridges) - hang and len(runs) > 1
         if first is None or not all_run or not all(
                 same(first, seen) and self.is_heard(runs[0][0], run) for run, seen in runs):
             self.group = (), 0.0, 0.0

@@ -69,6 +69,8 @@ def words(given: Sequence[str]) -> argparse.Namespace:
     ask.add_argument("--shrink", metavar="FILE", help="writes the shortest history found")
     ask.add_argument("--history", metavar="FILE", help="runs that one")
     ask.add_argument("--planted", nargs="?", const="all", type=names, metavar="NAME,..")
+    ask.add_argument("--built", metavar="FOLDER", help="programs that tests/cluster/faults/build "
+                     "made, with an edit of their own code: planted too")
     ask.add_argument("--check", action="store_true", help="compares hashes")
     ask.add_argument("--renew", action="store_true", help="writes them anew")
     ask.add_argument("--verbose", action="store_true")
@@ -114,7 +116,7 @@ class Runner:
         self.bridge, self.plant = bridge, plant
         self.controller, self.speaker = options.controller, options.speaker
         for module in ("controller", "speaker", "history", "operators", "planted",
-                       "speaker_history"):
+                       "speaker_history", "allowed"):
             importlib.import_module(module)
 
     def each(self, asked: Iterable["Asked"], jobs: int = 1,
@@ -380,10 +382,12 @@ def run_written(options: argparse.Namespace, runner: Runner) -> int:
 def tried_by(options: argparse.Namespace, first: int | str | None) -> Iterator["Asked"]:
     """The histories that may find a planted fault: a written one, by its name, or seeds from
     `first` on; where none is given all written ones, and then seeds."""
-    if not isinstance(first, int) and options.mode != "speakers":
+    if not isinstance(first, int):
         for path in WRITTEN:
-            if first in (None, path.stem):
-                yield replace(read_history(path), name=path.stem)
+            asked = replace(read_history(path), name=path.stem)
+            is_of_them = (asked.mode == "speakers") == (options.mode == "speakers")
+            if first == path.stem or first is None and is_of_them:
+                yield asked
     if not isinstance(first, str):
         for seed in itertools.count(options.seed if first is None else first):
             yield asked_of(options, seed)
@@ -393,9 +397,11 @@ def found_by(options: argparse.Namespace, name: str, first: int | str | None, sp
              folder: str) -> dict[str, Any]:
     """The next history from `first` on by which a planted fault is found, before so many seconds of
     the processor are spent."""
-    from planted import FAULTS, folder_of
+    from planted import BUILT, FAULTS, folder_of
     bridge = folder_of(name, options.bridge, folder)
     sys.path.insert(0, bridge)
+    if name in BUILT:
+        options.controller = str(pathlib.Path(options.built, name))
     runner = Runner(options, bridge, name)
     if name in FAULTS and FAULTS[name].of_speakers:
         options.mode = "speakers"
@@ -436,8 +442,9 @@ def seed_of(options: argparse.Namespace, name: str, first: int | str | None) -> 
 
 def run_planted(options: argparse.Namespace) -> int:
     """The table of docs/MEASURED.md."""
-    from planted import FAULTS, NAMES
-    wanted = list(NAMES if options.planted == ("all",) else options.planted)
+    from planted import BUILT, NAMES, stories_of
+    known = (*NAMES, *(BUILT if options.built else ()))
+    wanted = list(known if options.planted == ("all",) else options.planted)
     print("| Planted | Seed or history | Told at | As | Processor | Stored histories about it |\n"
           "|---|---|---|---|---|---|", flush=True)
     missed, running = 0, dict[IO[str], tuple[int, str]]()
@@ -452,18 +459,19 @@ def run_planted(options: argparse.Namespace) -> int:
         for file in select.select(list(running), [], [])[0]:
             pid, name = running.pop(file)
             found = outcome_of(pid, file)
-            stories = FAULTS[name].stories if name in FAULTS else ()
             missed += found["seed"] is None
             told = ["NOT FOUND", "", ""]
             if found["seed"] is not None:
                 kept[name] = found["seed"]
                 told = [found["seed"], f"{found['at']:.0f} s", found["how"].split()[0]]
-            row = [name, *told, f"{found['spent']:.0f} s", ", ".join(f"`{one}`" for one in stories)]
+            stories = ", ".join(f"`{one}`" for one in stories_of(name))
+            row = [name, *told, f"{found['spent']:.0f} s", stories]
             print(f"| {' | '.join(map(str, row))} |", flush=True)
     if options.renew:
-        SEEDS.write_text(json.dumps({name: kept[name] for name in NAMES if name in kept},
-                                    indent=1) + "\n")
-    print(f"{len(kept)} of {len(NAMES)} planted faults have a seed; {missed} not found")
+        all_kept = {name: kept[name] for name in (*NAMES, *BUILT) if name in kept}
+        SEEDS.write_text(json.dumps(all_kept, indent=1) + "\n")
+    count = sum(name in kept for name in known)
+    print(f"{count} of {len(known)} planted faults have a seed or a history; {missed} not found")
     return 1 if missed else 0
 
 

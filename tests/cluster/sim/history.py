@@ -56,7 +56,7 @@ class Asked:
     guard: bool | None = None  # whether the bridge keeps the last pool's deletion back; drawn
     name: str = ""
     nodes: int | None = None  # those of a history of speakers; drawn
-    old: bool | None = None  # whether one API server begins no watch with what there is; drawn
+    old: bool | None = None  # whether no API server begins a watch with what there is; drawn
 
 
 @dataclass
@@ -99,13 +99,13 @@ class History:
         flip = world.stream("guard", False).random() < 0.5
         self.is_guarded = flip if asked.guard is None else asked.guard
         self.judges = Judges(self.store, self.is_guarded)
+        self.faults = self.weather.faults = self.judges.faults
         self.alter = alter
         self.store.on_change.append(self.changed)
-        old = world.stream("old server", False).random()
-        is_old = old < OLD if asked.old is None else asked.old
-        self.servers = [
-            ApiServer(world, self.store, "api1", self.weather, old < OLD / 2 and not asked.is_bare),
-            ApiServer(world, self.store, "api2", self.weather, is_old)]
+        old = 1.0 if asked.is_bare else world.stream("old server", False).random()
+        self.servers = [ApiServer(world, self.store, name, self.weather,
+                                  old < share if asked.old is None else asked.old)
+                        for name, share in (("api1", OLD / 2), ("api2", OLD))]
         draw = world.stream("machines")
         self.machines = [Machine(world, f"n{at}", draw.uniform(-30, 30), draw.uniform(0.999, 1.001))
                          for at in range(1, 4)]
@@ -229,7 +229,7 @@ class History:
             server.see(self.store.version)
         self.weather.shares, self.weather.watches = {}, {}
         self.weather.strips = self.weather.unmarks = None
-        self.weather.next_puts.clear()
+        self.weather.fates.clear()
         self.weather.plans.clear()
         self.store.history = 1000
         for bridge in operator.bridges:

@@ -153,6 +153,7 @@ class Run(asyncio.SubprocessTransport):
         self.pid, self.input, self.last = process.machine.next_number(), Input(self), 0.0
         self.returncode: int | None = None
         self.over = self.frozen = self.awaits_reply = self.stepping = self.has_put_out = False
+        self.stands_since = 0.0  # when it was frozen last
         self.said = deque[list[bytes]]()  # what is to be given by the standard input
         self.waiters: list[asyncio.Future[int]] = []
         self.awaited: tuple[str, int] | None = None
@@ -404,6 +405,15 @@ class Run(asyncio.SubprocessTransport):
         soon(self.protocol.process_exited)
         for waiter in self.waiters:
             soon(set_unless_cancelled, waiter, status)
+
+    def freeze(self) -> None:
+        """It stands still."""
+        if not self.frozen:
+            self.frozen, self.stands_since = True, self.world.now
+
+    def thaw(self) -> None:
+        self.frozen = False
+        self.step_soon()
 
     def crash(self) -> None:
         """kill -9; what it has written and wasn't read yet is lost."""

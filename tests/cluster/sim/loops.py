@@ -2,6 +2,7 @@
 so that it can be paused and killed between any two steps, and one that is killed does nothing more:
 no `finally` runs."""
 import asyncio
+import inspect
 import sys
 from collections import deque
 from collections.abc import AsyncGenerator, Awaitable, Callable, Coroutine
@@ -67,6 +68,7 @@ class Process(asyncio.AbstractEventLoop):
         self.resources: list[Any] = []
         self.ended: Callable[[str], None] = lambda why: None
         self.main: asyncio.Task[object] | None = None
+        self.closing: list[Coroutine[Any, Any, None]] = []  # what may not have begun yet
 
     # What the world does with it
 
@@ -90,6 +92,9 @@ class Process(asyncio.AbstractEventLoop):
             self.world.note(self.name, why)
             for resource in list(self.resources):
                 resource.owner_died()
+            for closing in self.closing:
+                if inspect.getcoroutinestate(closing) == inspect.CORO_CREATED:
+                    closing.close()
             self.ended(why)
 
     def terminate(self) -> None:
@@ -148,7 +153,15 @@ class Process(asyncio.AbstractEventLoop):
 
     def close_generator(self, generator: AsyncGenerator[Any, Any]) -> None:
         if not self.dead:
-            self.call_soon(lambda: self.create_task(closed(generator)))
+            self.call_soon(self.close_now, generator)
+
+    def close_now(self, generator: AsyncGenerator[Any, Any]) -> None:
+        """(The task begins a step later, before which this may be killed: what never began is told
+        of by Python, and so it is closed then.)"""
+        closing = closed(generator)
+        self.closing = [one for one in self.closing
+                        if inspect.getcoroutinestate(one) == inspect.CORO_CREATED] + [closing]
+        self.create_task(closing)
 
     # What asyncio asks of a loop
 

@@ -87,10 +87,6 @@ FAULTS = {
         (Edit("carrier.py", "return REFUSED if answer.status else UNKNOWN",
               "return at(name.version + 1) if answer.status else UNKNOWN"),),
         ("a_put_is_answered_422",)),
-    "conflict-is-told-missing": Fault(
-        (Edit("carrier.py", "return REFUSED if answer.status else UNKNOWN",
-              "return MISSING if answer.status == 409 else UNKNOWN"),),
-        ("a_hop_sends_a_put_twice",)),
     "unreached-service-is-told-missing": Fault((Edit(
         "carrier.py", "            self.why = str(fault)\n            return UNKNOWN",
         "            self.why = str(fault)\n            return MISSING"),)),
@@ -144,6 +140,29 @@ FAULTS = {
     "refused-put-never-again": Fault(
         (Edit("refusals.py", "await self.touch(one)", "one.waits = None"),),
         ("a_webhook_is_down_for_one_service", "a_put_is_answered_500", "a_put_is_answered_403")),
+    "refused-put-is-sent-on-and-on": Fault(
+        (Edit("carrier.py", "            fault = fault_of(answer, put, patch)\n",
+              "            while answer.status not in (200, 404, 409):\n"
+              "                await asyncio.sleep(1.0)\n"
+              "                answer = await self.api.ask(\"PATCH\", name.path + \"/status\", "
+              "patch, PATCH, SHORT)\n"
+              "            fault = fault_of(answer, put, patch)\n"),),
+        tuple(f"a_put_is_answered_{status}" for status in (400, 401, 403, 422, 429, 500, 503))),
+    "a-lost-answer-is-waited-out": Fault(
+        (Edit("carrier.py", "            fault = Fault(str(broken), is_lost=True)\n",
+              "            fault = Fault(str(broken), is_lost=True)\n"
+              "            await asyncio.sleep(65.0)\n"),),
+        ("answers_to_puts_are_lost",)),
+    "busy-server-is-asked-at-once": Fault(
+        (Edit("pacing.py", "        if answer.status in BUSY:", "        if False:"),),
+        ("the_server_is_busy",)),
+    "lost-server-is-not-told": Fault(
+        (Edit("api.py", 'LOG.warning("%s: %s%s", self.server, why, lasts)', "pass"),),
+        ("the_server_is_lost",)),
+    "older-annotations-are-passed-over": Fault(
+        (Edit("reading.py", "    older = [name for name in ASKED if OLD + name in notes and "
+              "NEW + name not in notes]", "    older: list[str] = []"),),
+        ("services_share_by_the_older_annotation",)),
     "no-guard-of-pools": Fault(
         (Edit("guard.py", "return holds and not self.is_meant", "return False"),),
         ("all_pools_are_made_anew",)),
@@ -208,6 +227,22 @@ FAULTS = {
     "table-of-the-program-before": Fault((Edit(
         "peers.py", "session.go_by(self.table_of(name))", "pass"),), of_speakers=True),
 }
+
+
+# What was planted and is no fault, each with why.
+HARMLESS = {
+    "conflict-is-told-missing": "A put that is answered 409 was told as one whose service is gone. "
+    "Whatever but a later version is said of a put, the program fences it all the same, and the "
+    "address stays taken until the service is shown anew.",
+}
+# Programs with an edit of their own code (tests/cluster/faults/build), with the stored histories
+# about it, where what mends these is the program's.
+BUILT = {"doubt-forgotten": ("a_hop_sends_a_put_twice", "answers_to_puts_are_lost")}
+
+
+def stories_of(name: str) -> tuple[str, ...]:
+    """The stored histories that are about a fault."""
+    return FAULTS[name].stories if name in FAULTS else BUILT.get(name, ())
 
 
 def folder_of(name: str, bridge: str, beside: str) -> str:

@@ -4,10 +4,12 @@ faults of requests and watches. What a request is answered is what tests/cluster
 import io
 import json
 import random
+from collections import Counter
 from collections.abc import Callable
 from dataclasses import dataclass
 from typing import Any
 
+from allowed import refused
 from kinds import BY_NAME
 from rules import HELD_AS
 from serving import END as ENDS_LIST, Faults, Handler, Selection, Stream
@@ -30,13 +32,33 @@ compact = json.JSONEncoder(separators=(",", ":")).encode
 
 @dataclass
 class Plan:
-    """What the next put of a service meets with: a fault, of `seconds` where that takes a time, and
-    `soon` seconds later what befalls its sender, if anything does."""
+    """What a request meets with: a fault, of `seconds` where that takes a time, with a `status` and
+    the seconds of a Retry-After where it is a refusal, and `soon` seconds later what befalls its
+    sender, if anything does."""
     fault: str | None
     seconds: float | None = None
     strikes: bool = False
     soon: float = 0.0
     then: Callable[[], None] = lambda: None
+    status: int | None = None
+    retry_after: int | None = None
+
+
+@dataclass
+class Fate:
+    """What the next requests of a kind (`asked_for`) meet with, of a written history: those for the
+    service of that name, for those resources, or by that process, where one is named."""
+    what: str
+    plan: Plan
+    times: int = 1
+    name: str | None = None
+    of: str | None = None
+    by: str | None = None
+
+    def applies(self, what: str, place: str, process: str) -> bool:
+        name = service_of(place)[1]
+        return (what == self.what and self.times > 0 and self.name in (None, name)
+                and self.of in (None, place.rpartition("/")[2]) and self.by in (None, process))
 
 
 class Weather:
@@ -44,8 +66,9 @@ class Weather:
     `strikes` is how often something befalls the process whose request went wrong. `webhook` is the
     namespace whose services can't be changed, for a webhook that is down, `strips` that of one that
     takes each change out, and `unmarks` that of one that takes the marks out. `errors` are the
-    statuses that requests are refused by, `next_puts` the fates of the next changes of a service's
-    status, of a written history, and `plans` those of one service."""
+    statuses that requests are refused by, `fates` those of a written history, and `plans` those of
+    the next puts of services. `asked` counts the requests of each kind, `faults` has those that no
+    right allows."""
 
     def __init__(self) -> None:
         self.shares: dict[str, float] = {}
@@ -54,17 +77,38 @@ class Weather:
         self.strips: str | None = None
         self.unmarks: str | None = None
         self.errors, self.strikes = (500, 503, 429, 403), 0.0
-        self.next_puts: list[tuple[str, float]] = []
+        self.fates: list[Fate] = []
         self.plans: dict[tuple[str, str], Plan] = {}
         self.strike: Callable[[Any, random.Random], None] = lambda process, chance: None
+        self.asked: Counter[str] = Counter()
+        self.faults: list[str] = []
 
-    def planned(self, command: str, path: str, body: str) -> Plan | None:
-        """What is planned of a change of a service's status, once."""
-        if command != "PATCH" or not path.endswith("/status") or "ingress" not in body:
+    def planned(self, process: str, command: str, path: str, body: str) -> Plan | None:
+        """What is planned of a request of a process."""
+        what, place = asked_for(command, path, body), path.partition("?")[0]
+        self.asked[what] += 1
+        for fate in self.fates:
+            if fate.applies(what, place, process):
+                fate.times -= 1
+                return fate.plan
+        if what != "put" or '"ip"' not in body:
             return None
-        if self.next_puts:
-            return Plan(*self.next_puts.pop(0))
-        return self.plans.pop(service_of(path), None) if '"ip"' in body else None
+        return self.plans.pop(service_of(place), None)
+
+
+def asked_for(command: str, path: str, body: str) -> str:
+    """What a request is for: a change of the Lease, a service's put, its fence, its reading, a
+    watch, a list, a next page of one, or something else."""
+    place, _, query = path.partition("?")
+    if command == "PATCH" and place.endswith("/status"):
+        return "put" if "ingress" in body else "fence"
+    if command != "GET":
+        return "lease" if "/leases/" in place else "other"
+    if "watch=1" in query:
+        return "watch"
+    if "limit=" in query:
+        return "page" if "continue=" in query else "list"
+    return "get" if service_of(place)[1] else "other"
 
 
 def service_of(path: str) -> tuple[str, str]:
@@ -248,10 +292,10 @@ class Exchange:
         self.told += f" {brief(path, body)}" if is_write else ""
         shares = {name: share for name, share in weather.shares.items()
                   if is_write or name in ALL_REQUESTS}
-        fault, soon, held = drawn(shares, random), random.uniform(5e-4, 8e-3), None
-        plan = weather.planned(command, path, body)
+        fault, soon = drawn(shares, random), random.uniform(5e-4, 8e-3)
+        plan = weather.planned(self.link.process.name, command, path, body)
         if plan:
-            fault, held = plan.fault, plan.seconds
+            fault = plan.fault
         if fault:
             self.world.note(self.server.name, f"{fault}: {self.told}")
         if plan:
@@ -259,7 +303,7 @@ class Exchange:
         elif fault and is_write and random.random() < weather.strikes:
             pause = random.choice((0.0, 0.01, 1.0)) * random.random()
             after(pause, weather.strike, self.link.process, random)
-        self.meet(fault, make, soon, held)
+        self.meet(fault, make, soon, plan or Plan(fault))
 
     def befall(self, plan: Plan, random: random.Random) -> None:
         """What is planned for when a put is out."""
@@ -268,9 +312,8 @@ class Exchange:
             self.world.after(plan.soon, strike, self.link.process, random)
         plan.then()
 
-    def meet(self, fault: str | None, make: Callable[[], Asked], soon: float,
-             held: float | None) -> None:
-        """The request meets with a fault, or with none. `held`: for how long a hop holds it."""
+    def meet(self, fault: str | None, make: Callable[[], Asked], soon: float, plan: Plan) -> None:
+        """The request meets with a fault, or with none."""
         random, after = self.link.random, self.world.after
         match fault:
             case "reset":
@@ -282,15 +325,16 @@ class Exchange:
                     self.break_off()
                 else:
                     self.link.is_mute = True
-                seconds = random.uniform(0, HOP_SECONDS) if held is None else held
-                seconds = min(seconds, HOP_SECONDS)
-                after(seconds, self.carry_out, make, None, True)
+                seconds = random.uniform(0, HOP_SECONDS)
+                seconds = seconds if plan.seconds is None else plan.seconds
+                after(min(seconds, HOP_SECONDS), self.carry_out, make, None, True)
             case "resent":  # the first answer is lost
                 after(soon, self.carry_out, make, lambda *_: None)
                 after(soon + random.uniform(0.001, 1), self.carry_out, make)
             case "error":
-                status = random.choice(self.server.weather.errors)
-                after(soon, self.answer, status, {"kind": "Status", "message": "made up"})
+                status = plan.status or random.choice(self.server.weather.errors)
+                after(soon, self.answer, status, {"kind": "Status", "message": "made up"},
+                      plan.retry_after)
             case "stored":
                 status = random.choice((500, 504))
                 after(soon, self.carry_out, make,
@@ -315,6 +359,13 @@ class Exchange:
             return 500, {"kind": "Status", "message": told}
         return (200, service) if key[0] == weather.strips else None
 
+    def by_rights(self, asked: Asked) -> tuple[int, Json] | None:
+        """What a request is answered that its sender has no right to, which is told."""
+        if why := refused(self.link.process.name, asked.command, asked.path):
+            self.server.weather.faults.append(f"RIGHT {self.link.process.name}: {why}")
+            return 403, Refused(403, why).status()
+        return None
+
     def of_page(self) -> tuple[int, Json] | None:
         """What a next page of a list is answered, where that became too old."""
         share = min(MOST_PAGES, PAGES * self.server.weather.watches.get("expire", 0.0))
@@ -327,7 +378,7 @@ class Exchange:
         if not self.server.up and not held:
             return
         asked = make()
-        answered = self.by_webhook(asked.command, asked.path)
+        answered = self.by_rights(asked) or self.by_webhook(asked.command, asked.path)
         if "&continue=" in asked.path:
             answered = self.of_page()
         if answered:
@@ -347,10 +398,11 @@ class Exchange:
             self.world.note(self.server.name, f"{code} to {self.told}{late}{version}")
         (answer or self.answer)(code, body)
 
-    def answer(self, code: int, body: Json) -> None:
+    def answer(self, code: int, body: Json, retry_after: int | None = None) -> None:
         if not self.over:
             data = compact(body).encode()
-            head = (f"HTTP/1.1 {code} x\r\nContent-Type: application/json\r\n"
+            later = "" if retry_after is None else f"Retry-After: {retry_after}\r\n"
+            head = (f"HTTP/1.1 {code} x\r\nContent-Type: application/json\r\n{later}"
                     f"Content-Length: {len(data)}\r\n\r\n")
             self.link.down.send(head.encode() + data)
             self.link.down.send(END)

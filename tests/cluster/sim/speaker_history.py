@@ -18,8 +18,8 @@ from rules import (FROM_POOL, HELD_AS, Claims, Config, choose, compiled, labels_
 from servers import ApiServer, Weather
 from stand_ins import Simulated, note_log
 from store import MERGE, Store
-from troubles import BOTH, Harm, Trouble, drawn, length
-from users import METALLB, Users
+from troubles import BOTH, SPACES, Harm, Said, Trouble, balancer, drawn, length
+from users import METALLB, Users, custom, space
 from virtual import World
 
 SETTLED = 300.0  # seconds of calm within which all is as it must be
@@ -29,6 +29,7 @@ MOMENT = 0.1  # seconds between two looks at who announces what
 KUBELET, PROBE, PROBES, EVICTED = 10.0, 2.0, 6.0, 50.0
 KINDS = ["kill", "crash", "freeze", "pause", "suspend", "clock", "off", "leave", "cut", "down",
          "stale", "watches", "compact", "part", "part", "alone", "alone", "router", "loss"]
+SERVICES = 9  # of a bare history
 ROUTERS = {"q0": 1790, "q1": 1791}
 PULSES = "kube-node-lease"
 
@@ -173,14 +174,45 @@ class NodeHarm(Harm):
 
     def alone(self, random: Random) -> None:
         """A node loses all others, and perhaps the API server too."""
+        node, seconds = random.choice(sorted(self.history.lan.addresses)), length(random)
+        self.isolate(node, seconds, random.random() < 0.5)
+
+    def isolate(self, node: str, seconds: float, of_servers: bool) -> None:
         names = sorted(self.history.lan.addresses)
-        node, seconds = random.choice(names), length(random)
         ways = {way for other in names if other != node for way in ((node, other), (other, node))}
         self.sever(ways, seconds)
-        if random.random() < 0.5:
+        if of_servers:
             machine = next(one for one in self.history.machines if one.name == node)
             servers = [server.name for server in self.history.servers]
             self.cut_off(machine, {(name, way) for name in servers for way in BOTH[0]}, seconds)
+
+    def freeze(self, random: Random) -> None:
+        """The program of one node stands still, or those of all."""
+        runs = [run for run in self.history.crew.runs if not run.over]
+        if runs and random.random() < 0.7:
+            self.hang(random.choice(runs), length(random))
+        else:
+            super().freeze(random)
+
+    def hang(self, run: Run, seconds: float) -> None:
+        run.freeze()
+        self.world.note(run.process.name, "its program stands still")
+        self.world.after(seconds, self.thaw, run)
+
+    def said_hang(self, said: Said) -> None:
+        """The program of a node stands still."""
+        for run in [run for run in self.history.crew.runs if not run.over]:
+            if run.process.machine.name == said["node"]:
+                self.hang(run, said["seconds"])
+
+    def said_off(self, said: Said) -> None:
+        """A node is off."""
+        if bridge := self.history.crew.of(said["node"]):
+            self.turn_off(bridge, said["seconds"])
+
+    def said_alone(self, said: Said) -> None:
+        """A node loses all others and the API server."""
+        self.isolate(said["node"], said["seconds"], True)
 
     def sever(self, ways: set[tuple[str, str]], seconds: float) -> None:
         lan = self.history.lan
@@ -225,7 +257,14 @@ class SpeakerHistory:
         hand_in_speaker(self.lan)
         self.users: Any = NodeUsers(self.store, world.stream("users", False), speakers=True)
         self.users.router_ports = dict(ROUTERS)
-        self.begin_cluster(addresses)
+        self.store.put(space(PULSES, {}))
+        if asked.is_bare:
+            self.begin_bare()
+        else:
+            self.begin_cluster(addresses)
+        self.show_nodes(addresses)
+        self.give_records()
+        self.store.on_change.append(self.changed)
         for name, port in ROUTERS.items():
             self.lan.routers[port] = Router(world, name, self.number_of(name))
         self.servers = [ApiServer(world, self.store, name, self.weather)
@@ -234,6 +273,7 @@ class SpeakerHistory:
                                          lambda node: words(self.words_for(node)), self)
         self.kubelets = Kubelets(world, self.store, self.crew, addresses, self.servers)
         self.air = Air(world, self.store, self.lan, self.crew, self.hops)
+        self.faults = self.weather.faults = self.air.faults
         history: Any = self
         self.harm = NodeHarm(history, asked.without)
         kinds = [kind for kind in asked.kinds or KINDS if kind not in asked.without]
@@ -248,16 +288,26 @@ class SpeakerHistory:
     def number_of(self, name: str) -> Callable[[], int]:
         return lambda: int(self.users.peer_number(name))
 
+    def begin_bare(self) -> None:
+        """Some services with endpoints everywhere, which the nodes share out among them."""
+        self.store.put(space(SPACES[0], {}))
+        self.store.put(custom("IPAddressPool", "p", {"addresses": ["192.0.2.0/28"]}))
+        self.store.put(custom("L2Advertisement", "l", {}))
+        for at in range(SERVICES):
+            self.store.put(balancer((SPACES[0], f"s{at}"), {}))
+            endpoints = [{"addresses": [hops[4]], "nodeName": name, "conditions": {"ready": True}}
+                         for name, hops in self.hops.items()]
+            self.store.put({"kind": "EndpointSlice", "apiVersion": "discovery.k8s.io/v1",
+                            "addressType": "IPv4", "endpoints": endpoints,
+                            "metadata": {"name": f"s{at}", "namespace": SPACES[0],
+                                         "labels": {"kubernetes.io/service-name": f"s{at}"}}})
+
     def begin_cluster(self, addresses: dict[str, str]) -> None:
-        for name in (PULSES,):
-            self.store.put({"apiVersion": "v1", "kind": "Namespace", "metadata": {"name": name}})
         self.users.begin()
         self.users.begin_speakers()
         self.show_nodes(addresses)
         for _ in range(10):
             self.users.make([self.users.set_slice])
-        self.give_records()
-        self.store.on_change.append(self.changed)
 
     def changed(self, change: Any) -> None:
         if change.kind.name != "Lease":

@@ -63,8 +63,9 @@ class Told(logging.Handler):
     """Notes what is logged by a process."""
 
     def emit(self, record: logging.LogRecord) -> None:
-        process = running()
-        process.world.note(process.name, f"tells: {record.getMessage()}")
+        process, told = running(), record.getMessage()
+        process.world.told.append((process.name, told))
+        process.world.note(process.name, f"tells: {told}")
 
 
 def note_log() -> None:

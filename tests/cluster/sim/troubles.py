@@ -1,6 +1,7 @@
 """What goes wrong: each trouble has a time, a kind and a seed of its own, so that one can be left
 out without changing the others; or it is written, with what it says in place of the seed."""
 import contextlib
+import sys
 from collections.abc import Callable, Sequence
 from random import Random
 from typing import TYPE_CHECKING, Any, NamedTuple
@@ -8,9 +9,9 @@ from typing import TYPE_CHECKING, Any, NamedTuple
 from kinds import BY_NAME
 from loops import Machine, Process
 from rules import POOL
-from servers import Plan
+from servers import Fate, Plan
 from store import MERGE, Refused
-from users import METALLB, custom
+from users import METALLB, custom, space
 
 if TYPE_CHECKING:
     from history import History
@@ -78,6 +79,19 @@ def contested(number: int) -> Said:
     """A pool of one address, which those have that ask for it."""
     return custom("IPAddressPool", f"x{number}", {"addresses": [f"203.0.113.{number}/32"],
                                                   "autoAssign": False})
+
+
+def balancer(key: Key, notes: dict[str, str], port: int = 80) -> Said:
+    """A service of type LoadBalancer with these annotations."""
+    return {"apiVersion": "v1", "kind": "Service",
+            "metadata": {"namespace": key[0], "name": key[1], "annotations": notes},
+            "spec": {"type": "LoadBalancer", "selector": {"app": key[1]},
+                     "ports": [{"protocol": "TCP", "port": port}]}}
+
+
+def key_of(said: Said) -> Key:
+    """The service that a written trouble is about."""
+    return said.get("namespace", SPACES[0]), said["name"]
 
 
 def length(random: Random, lengths: Sequence[float] = LENGTHS) -> float:
@@ -204,10 +218,7 @@ class Harm:
 
     def wants(self, key: Key, pool: str) -> None:
         """The service is there, and asks for that pool."""
-        spec = {"type": "LoadBalancer", "selector": {"app": key[1]}, "ports": [{"port": 80}]}
-        metadata = {"namespace": key[0], "name": key[1], "annotations": {POOL: pool}}
-        self.tried(self.history.store.put, {"apiVersion": "v1", "kind": "Service", "spec": spec,
-                                            "metadata": metadata})
+        self.tried(self.history.store.put, balancer(key, {POOL: pool}))
 
     def unmake(self, key: Key) -> None:
         self.tried(self.history.store.delete, BY_NAME["Service"], key)
@@ -243,12 +254,11 @@ class Harm:
 
     def freeze(self, random: Random) -> None:
         for run in [run for run in self.history.operator.runs if not run.over]:
-            run.frozen = True
+            run.freeze()
             self.world.after(length(random), self.thaw, run)
 
     def thaw(self, run: "Run") -> None:
-        run.frozen = False
-        run.step_soon()
+        run.thaw()
 
     def pause(self, random: Random) -> None:
         if bridge := self.a_bridge(random):
@@ -400,19 +410,65 @@ class Harm:
     def said_make(self, said: Said) -> None:
         self.history.store.put(said["object"])
 
+    def said_space(self, said: Said) -> None:
+        self.history.store.put(space(said["name"], said.get("labels", {})))
+
+    def said_pool(self, said: Said) -> None:
+        spec = {"addresses": [said["addresses"]], **said.get("spec", {})}
+        self.history.store.put(custom("IPAddressPool", said["name"], spec))
+
+    def said_service(self, said: Said) -> None:
+        self.history.store.put(balancer(key_of(said), said.get("notes", {}), said.get("port", 80)))
+
     def said_give(self, said: Said) -> None:
         """A service has an address, as a controller of MetalLB's leaves it."""
-        status = {"loadBalancer": {"ingress": [{"ip": said["address"]}]}}
-        self.history.store.patch(BY_NAME["Service"], (said["namespace"], said["name"]),
-                                 {"status": status}, MERGE, True)
+        body = {"metadata": {"annotations": said.get("notes", {})},
+                "status": {"loadBalancer": {"ingress": [{"ip": said["address"]}]}}}
+        self.history.store.patch(BY_NAME["Service"], key_of(said), body, MERGE, True)
 
     def said_delete(self, said: Said) -> None:
         kind, namespace = BY_NAME[said["kind"]], said.get("namespace", METALLB)
         self.history.store.delete(kind, (namespace, said["name"]))
 
-    def said_put(self, said: Said) -> None:
-        """The next put meets with this fault."""
-        self.history.weather.next_puts.append((said["fault"], said.get("seconds", 0.0)))
+    def said_meet(self, said: Said) -> None:
+        """The next requests for `what` meet with this fault, or all for as long as it `lasts`."""
+        plan = Plan(said["fault"], said.get("seconds"), status=said.get("status"),
+                    retry_after=said.get("retry_after"))
+        times = sys.maxsize if "lasts" in said else said.get("times", 1)
+        by = f"bridge{said['bridge']}" if "bridge" in said else None
+        fate = Fate(said["what"], plan, times, said.get("name"), said.get("of"), by)
+        self.history.weather.fates.append(fate)
+        if "lasts" in said:
+            self.world.after(said["lasts"], setattr, fate, "times", 0)
+
+    # And what must be by then
+
+    def said_has(self, said: Said) -> None:
+        """The service has an address: that one, where one is named."""
+        service = self.history.store.objects[BY_NAME["Service"]].get(key_of(said), {})
+        ingress = ((service.get("status") or {}).get("loadBalancer") or {}).get("ingress") or []
+        found = [one.get("ip") for one in ingress]
+        if not found or said.get("address", found[0]) not in found:
+            wanted = said.get("address", "an address")
+            self.history.faults.append(f"LATE {'/'.join(key_of(said))} has {found} by "
+                                       f"{self.world.now:.0f} s, and is to have {wanted}")
+
+    def said_told(self, said: Said) -> None:
+        """The bridge told the operator of it."""
+        if not any(name == f"bridge{said['bridge']}" and said["text"] in text
+                   for name, text in self.world.told):
+            self.history.faults.append(f"UNTOLD bridge{said['bridge']} says nothing of "
+                                       f"\"{said['text']}\" by {self.world.now:.0f} s")
+
+    def said_most(self, said: Said) -> None:
+        """In the next seconds no more than so many requests for `what` are made."""
+        before, what = self.history.weather.asked[said["what"]], said["what"]
+
+        def look() -> None:
+            if (count := self.history.weather.asked[what] - before) > said["count"]:
+                self.history.faults.append(f"LOAD {count} requests for a {what} within "
+                                           f"{said['seconds']} s, and {said['count']} do")
+        self.world.after(said["seconds"], look)
 
     def said_start(self, _said: Said) -> None:
         self.history.operator.start_elsewhere()
@@ -424,6 +480,13 @@ class Harm:
     def said_stop(self, said: Said) -> None:
         if bridge := self.named(said):
             self.history.operator.stop(bridge)
+
+    def said_crash(self, said: Said) -> None:
+        """The program of that bridge is killed."""
+        bridge = self.named(said)
+        for run in [run for run in self.history.operator.runs if not run.over]:
+            if run.process is bridge:
+                run.crash()
 
     def said_pause(self, said: Said) -> None:
         if bridge := self.named(said):
@@ -474,7 +537,7 @@ class Harm:
         self.world.after(said["seconds"], setattr, weather, "watches", {})
 
     def said_edit(self, said: Said) -> None:
-        self.touch((said["namespace"], said["name"]))
+        self.touch(key_of(said))
 
     def said_webhook(self, said: Said) -> None:
         weather = self.history.weather

@@ -19,6 +19,7 @@ class World:
         self.drawn: collections.Counter[str] = collections.Counter()
         self.counts: collections.Counter[str] = collections.Counter()  # of what befell whom
         self.hash, self.notes = hashlib.sha256(), 0
+        self.told: list[tuple[str, str]] = []  # who told the operator what
 
     def stream(self, name: str, salted: bool = True) -> random.Random:
         """A source of chance of its own, so that what is drawn in one place doesn't change what is

@@ -39,9 +39,11 @@ def start(services: int, nodes: int, peers: int = 0) -> Lines:
     yield lines.list_end("EndpointSlice", 10000 + 2 * services)
 
 
-def heartbeats(nodes: int) -> Lines:
-    for at, name in enumerate(names(nodes)):
-        yield lines.node(name, NEWER + at)
+def heartbeats(nodes: int, rounds: int) -> Lines:
+    """So many rounds of them, which stand out of the start's noise."""
+    for turn in range(rounds):
+        for at, name in enumerate(names(nodes)):
+            yield lines.node(name, NEWER + turn * nodes + at)
 
 
 def labels() -> Lines:

@@ -105,7 +105,7 @@ CONTROLLER = {
 SPEAKER = {
     "heartbeat": Kind("mlb_speaker",
                       f"Node lines that change nothing, {FEW} services, {MEMBERS} members",
-                      lambda: speaker.heartbeats(MEMBERS), lambda: speaker.start(FEW, MEMBERS),
+                      lambda: speaker.heartbeats(MEMBERS, 20), lambda: speaker.start(FEW, MEMBERS),
                       NODE, micros=20, told={"announce": 0, "withdraw": 0}),
     "labels": Kind("mlb_speaker", "a node's labels change: 1 us an address",
                    speaker.labels, lambda: speaker.start(FEW, MEMBERS), NODE, micros=FEW),

@@ -13,7 +13,7 @@ ghost use Rattle.versioned_map.specs.Objects.{listed, Amends};
 use mlb_base::{NoMemory, TryCopy};
 use std::alloc::Global;
 use std::collections::BTreeMap;
-use std::collections::btree_map::Iter;
+use std::collections::btree_map::{Entry, Iter};
 use std::marker::Model;
 
 /// An object, at the version that it was last shown with; 0 where it wasn't shown since its watch
@@ -121,13 +121,24 @@ impl<K: Ord + Drop, T: Drop> VersionedMap<K, T> {
         ensures ok { OnOk result (self.new ≡ shown K.cmp self.old key version object) }
         ensures err { OnErr result (self.new ≡ self.old) }
     {
-        if version <= self.version_of(&key) {
+        if version == 0 {
             return Ok(Shown::PassedOver { object });
         }
-        let before = self.held.insert(key, Versioned { version, object })?;
-        Ok(Shown::Held {
-            before: object_in(before),
-        })
+        match self.held.entry(key)? {
+            Entry::Occupied(mut entry) => {
+                if version <= entry.get().version {
+                    return Ok(Shown::PassedOver { object });
+                }
+                let before = entry.insert(Versioned { version, object });
+                Ok(Shown::Held {
+                    before: Some(before.object),
+                })
+            }
+            Entry::Vacant(entry) => {
+                entry.insert(Versioned { version, object });
+                Ok(Shown::Held { before: None })
+            }
+        }
     }
 
     /// The object is held at this version, in place of what was there. Where memory ran out the map

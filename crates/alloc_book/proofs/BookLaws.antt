@@ -115,10 +115,6 @@ loss-is : {P : Type 0} (b : Bool) (loss : Loss) → loss ≡ loss_of b → Decid
 loss-is true answer e d = (λ _. d.0 refl, λ _. e)
 loss-is false answer e d = (λ lost. absurd (cc), λ p. absurd (true≢false (sym (d.1 p))))
 
-pub loss-settled : (claims : List ClaimValue) (key : Key) (r : Record) (t : Terms) (loss : Loss) → AreAssigned claims → loss ≡ loss_of (loses key r t claims)
-    → (loss ≡ Lost → HasLost claims (settled key r t claims)) × (HasLost claims (settled key r t claims) → loss ≡ Lost)
-loss-settled claims key r t loss all e = loss-is (loses key r t claims) loss e (settled-lost claims key r t all)
-
 pub loss-others : (claims : List ClaimValue) (key : Key) (loss : Loss) → loss ≡ loss_of (has_claims key claims)
     → (loss ≡ Lost → HasLost claims (others key claims)) × (HasLost claims (others key claims) → loss ≡ Lost)
 loss-others claims key loss e = loss-is (has_claims key claims) loss e (others-lost claims key)
@@ -130,10 +126,10 @@ kept-more before after key each other apart c there =
     let found = claim-of before other c there in
     subst (λ k. Contains (claims_of k after) c) found.1 (record-of after c (each c found.0))
 
-pub answer-settled : (before after : List ClaimValue) (key : Key) (r : Record) (t : Terms) (loss : Loss) → AreAssigned before → after ≡ settled key r t before
-    → loss ≡ loss_of (loses key r t before) → (loss ≡ Lost) ↔ HasLost before after
-answer-settled before after key r t loss all is e =
-    subst (λ (cs : List ClaimValue). (loss ≡ Lost) ↔ HasLost before cs) (sym is) (loss-settled before key r t loss all e)
+pub answer-settled : (before after : List ClaimValue) (key : Key) (r : Record) (t : Terms) (is_lost : Bool) (loss : Loss) → loss ≡ loss_of is_lost
+    → (is_lost ≡ true) ↔ HasLost before (settled key r t before) → after ≡ settled key r t before → (loss ≡ Lost) ↔ HasLost before after
+answer-settled before after key r t is_lost loss e lost is =
+    subst (λ (cs : List ClaimValue). (loss ≡ Lost) ↔ HasLost before cs) (sym is) (loss-is is_lost loss e lost)
 
 pub answer-loses : (claims : List ClaimValue) (key : Key) (r : Record) (t : Terms) (is_lost : Bool) → AreAssigned claims → is_lost ≡ loses key r t claims
     → (is_lost ≡ true) ↔ HasLost claims (settled key r t claims)

@@ -6,6 +6,7 @@ use Rattle.pool_config.specs.declared.compiled.CompiledPool.{CompiledPool}
 use Rattle.full_entries.specs.declared.entries.Entry.{Entry}
 use Rattle.full_entries.specs.Entries.{entries_in}
 use Rattle.alloc_book.specs.declared.search.AddressSearch.{AddressSearch}
+use Rattle.alloc_book.specs.declared.search.PoolSearch.{PoolSearch}
 use Rattle.alloc_book.specs.Search.{usable}
 use Rattle.claim_index.specs.Claims.{ClaimValue, has_claims}
 
@@ -35,3 +36,7 @@ AreAmong entries pool = (entries ≡ []) ⊎ ((place : ℕ) × StandAt entries p
 -- where it is said from which place on the pool's entries stand among those of the book, they do
 abbrev pub KnowsPlace : AddressSearch → Type 0
 KnowsPlace s = IfSome s.first (StandAt s.book.now.entries s.pool.now)
+
+-- it is said whether the service has a claim
+abbrev pub KnowsService : PoolSearch → Type 0
+KnowsService s = s.is_holder ≡ has_claims s.service.now.key s.book.now.claims

@@ -14,7 +14,7 @@ ghost use Rattle.sharing_terms.specs.Spelled.{recorded_terms};
 ghost use Rattle.sharing_terms.specs.Terms.{terms_of};
 ghost use Rattle.alloc_book.specs.declared.choice.Choice.{Choice};
 ghost use Rattle.alloc_book.specs.Asking.{offer_of};
-ghost use Rattle.claim_index.specs.Claims.{AreAssigned, ClaimValue, others, settled, doubted};
+ghost use Rattle.claim_index.specs.Claims.{ClaimValue, others, settled, doubted};
 ghost use Rattle.claim_index.specs.Claims.{doubted_by, loses, has_claims, holders, terms_under};
 ghost use Rattle.alloc_book.specs.Book.{HasLost, HasRoom, loss_of};
 ghost use Rattle.alloc_book.specs.Choose.{choose};
@@ -170,16 +170,14 @@ impl Book {
         Ok(())
     }
 
-    fn put(&mut self, claim: Claim) -> Loss
+    /// The claim's key has this claim and no other, or none where its record has no address. There
+    /// is room for it, so it takes no memory. Whether a claim is lost by that, `loses` tells.
+    pub fn settle_prepared(&mut self, claim: Claim)
         requires { HasRoom self.old claim }
         ensures claims { self.new.claims
             ≡ settled claim.key claim.holding claim.terms self.old.claims }
-        ensures loss { result ≡ loss_of
-            (loses claim.key claim.holding claim.terms self.old.claims) }
-        ensures assigned { AreAssigned self.old.claims }
         ensures entries { self.new.entries ≡ self.old.entries }
     {
-        let is_lost = self.index().loses(&claim);
         if claim.holding().is_assigned() {
             let number = self.index.add(claim);
             remove_others(&mut self.index, number);
@@ -187,20 +185,6 @@ impl Book {
             remove_all(&mut self.index, claim.key());
             drop(claim);
         }
-        loss_of(is_lost)
-    }
-
-    /// The claim's key has this claim and no other, or none where its record has no address. There
-    /// is room for it, so it takes no memory. `Lost` is answered exactly where a claim that stood,
-    /// its terms included, isn't there any more.
-    pub fn settle_prepared(&mut self, claim: Claim) -> Loss
-        requires { HasRoom self.old claim }
-        ensures claims { self.new.claims
-            ≡ settled claim.key claim.holding claim.terms self.old.claims }
-        ensures loss { (result ≡ Loss.Lost) ↔ HasLost self.old.claims self.new.claims }
-        ensures entries { self.new.entries ≡ self.old.entries }
-    {
-        self.put(claim)
     }
 
     /// The key's claims become the one of this record, under the terms of its mark or, where it is
@@ -220,7 +204,9 @@ impl Book {
             drop(claim);
             return Err(NoMemory);
         };
-        Ok(self.settle_prepared(claim))
+        let is_lost = self.loses(&claim);
+        self.settle_prepared(claim);
+        Ok(loss_of(is_lost))
     }
 
     /// The claim's key has this claim too, unless it stands already or its record has no address.

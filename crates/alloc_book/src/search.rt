@@ -14,7 +14,7 @@ ghost use Rattle.claim_index.specs.SharingGroups.{sharing_group_of};
 ghost use Rattle.alloc_book.specs.Candidates.{is_own, is_offered, is_free, Covers};
 ghost use Rattle.number_sets.specs.Least.{IsLeastIn, NonePasses};
 ghost use Rattle.alloc_book.specs.Searching.{AreAmong, CanShareNone, KnowsHolder, KnowsPlace};
-ghost use Rattle.alloc_book.specs.Searching.{StandAt, claims_for, usable_by};
+ghost use Rattle.alloc_book.specs.Searching.{KnowsService, StandAt, claims_for, usable_by};
 ghost use Rattle.alloc_book.specs.Search.{usable, numbered, least_between, least_in, least_usable};
 ghost use Rattle.alloc_book.specs.Search.{least_each, first_pool, first_of, first_option};
 ghost use Rattle.address_holders.specs.Holders.{address_of};
@@ -283,8 +283,9 @@ impl<'a> AddressSearch<'a> {
 }
 
 /// From which place on the pool's entries stand among those of which the book keeps whether they
-/// are full; `None` where it is kept of none.
-fn first_place(book: &Book, pool: &CompiledPool) -> Option<usize>
+/// are full; `None` where it is kept of none. It is found at once where it is the place that is
+/// near.
+fn first_place(book: &Book, pool: &CompiledPool, near: usize) -> Option<usize>
     requires { AreAmong book.now.entries pool.now }
     ensures { IfSome result (StandAt book.now.entries pool.now) }
 {
@@ -297,7 +298,15 @@ fn first_place(book: &Book, pool: &CompiledPool) -> Option<usize>
         family: span.family,
         number: span.low,
     };
-    entries.place_of(&address)
+    entries.place_near(near, &address)
+}
+
+/// The place after the pool's entries, which stand from the first one on, where that is known.
+fn place_after(first: Option<usize>, pool: &CompiledPool) -> usize {
+    match first {
+        Some(place) => place.saturating_add(pool.spans.as_slice().len()),
+        None => 0,
+    }
 }
 
 fn span_at(spans: &[Span], at: usize) -> Option<&Span>
@@ -322,22 +331,6 @@ pub fn least_usable(
     ensures none { IfNone result ((a : AddressValue)
         → ¬ (IsUsableOf (holders book.now.claims) key.now terms.now pool.now family a)) }
 {
-    least_past_full(book, pool, key, terms, family, None)
-}
-
-/// The same, where the pool's entries stand from this place on among those of which the book keeps
-/// whether they are full.
-fn least_past_full(
-    book: &Book,
-    pool: &CompiledPool,
-    key: &Key,
-    terms: &GroupedTerms,
-    family: Family,
-    first: Option<usize>,
-) -> Option<Address>
-    requires { IfSome first (StandAt book.now.entries pool.now) }
-    ensures { result ≡ least_usable book.now.claims key.now terms.now pool.now family }
-{
     let search = AddressSearch {
         book,
         pool,
@@ -345,33 +338,9 @@ fn least_past_full(
         terms,
         family,
         is_holder: book.has_claims(key),
-        first,
+        first: None,
     };
     search.least_listed()
-}
-
-/// The first address of each family that may be used, where there is one of each.
-fn least_each(
-    alloc: Global,
-    book: &Book,
-    pool: &CompiledPool,
-    families: &[Family],
-    service: &Service,
-    terms: &MarkedTerms,
-) -> Result<Option<AddressList>, NoMemory>
-    requires { AreAmong book.now.entries pool.now }
-    ensures { IfOk result (λ found. found
-        ≡ least_each book.now.claims service.now.key terms.now pool.now families.now) }
-{
-    let first = first_place(book, pool);
-    let mut addresses = AddressList::new(alloc);
-    for family in families {
-        match least_past_full(book, pool, &service.key, terms.terms(), *family, first) {
-            Some(address) => addresses.push(address)?,
-            None => return Ok(None),
-        }
-    }
-    Ok(Some(addresses))
 }
 
 /// Addresses of the pool, under these terms.
@@ -391,53 +360,131 @@ pub(crate) fn record_in(
     })
 }
 
-/// What the first pool gives that has an address of each of the families.
-fn first_pool(
+/// A search of pools for addresses that a service may use.
+#[derive(Drop)]
+struct PoolSearch<'a> {
     alloc: Global,
-    book: &Book,
-    pools: &[&CompiledPool],
-    families: &[Family],
-    service: &Service,
-    terms: &MarkedTerms,
-) -> Result<Option<Record>, NoMemory>
-    requires { All (λ p. AreAmong book.now.entries p.now) pools.now }
-    ensures { IfOk result (λ found. found
-        ≡ first_pool book.now.claims (asking service.now terms.now) families.now
-        (map (λ p. p.now) pools.now)) }
-{
-    for pool in pools {
-        if let Some(addresses) = least_each(alloc, book, pool, families, service, terms)? {
-            return Ok(Some(record_in(pool, terms, addresses)?));
-        }
-    }
-    Ok(None)
+    /// The book, by whose claims an address may be used or not.
+    book: &'a Book,
+    /// The service that is to have the addresses.
+    service: &'a Service,
+    /// The terms under which it would have them.
+    terms: &'a MarkedTerms,
+    /// Whether the service has a claim.
+    is_holder: bool,
 }
 
-/// The same for the first of the families that a pool has an address of.
-fn first_alone(
-    alloc: Global,
-    book: &Book,
-    pools: &[&CompiledPool],
-    families: &[Family],
-    service: &Service,
-    terms: &MarkedTerms,
-) -> Result<Option<Record>, NoMemory>
-    requires { All (λ p. AreAmong book.now.entries p.now) pools.now }
-    ensures { IfOk result (λ found. found
-        ≡ first_of book.now.claims (asking service.now terms.now) (map (λ p. p.now) pools.now)
-        (map (λ family. family ∷ []) families.now)) }
-{
-    for family in families {
-        let found = first_pool(alloc, book, pools, &[*family], service, terms)?;
+impl<'a> PoolSearch<'a> {
+    /// The first address of the family that may be used, where the pool's entries stand from this
+    /// place on among those of which the book keeps whether they are full.
+    fn least_address(
+        &self,
+        pool: &CompiledPool,
+        family: Family,
+        first: Option<usize>,
+    ) -> Option<Address>
+        requires holder { KnowsService self.now }
+        requires place { IfSome first (StandAt self.now.book.now.entries pool.now) }
+        ensures { result ≡ least_usable self.now.book.now.claims
+            self.now.service.now.key self.now.terms.now pool.now family }
+    {
+        let search = AddressSearch {
+            book: self.book,
+            pool,
+            key: &self.service.key,
+            terms: self.terms.terms(),
+            family,
+            is_holder: self.is_holder,
+            first,
+        };
+        search.least_listed()
+    }
+
+    /// The first address of each family that may be used, where there is one of each.
+    fn least_each(
+        &self,
+        pool: &CompiledPool,
+        families: &[Family],
+        first: Option<usize>,
+    ) -> Result<Option<AddressList>, NoMemory>
+        requires holder { KnowsService self.now }
+        requires place { IfSome first (StandAt self.now.book.now.entries pool.now) }
+        ensures { IfOk result (λ found. found ≡ least_each self.now.book.now.claims
+            self.now.service.now.key self.now.terms.now pool.now families.now) }
+    {
+        let mut addresses = AddressList::new(self.alloc);
+        for family in families {
+            match self.least_address(pool, *family, first) {
+                Some(address) => addresses.push(address)?,
+                None => return Ok(None),
+            }
+        }
+        Ok(Some(addresses))
+    }
+
+    /// What the first pool gives that has an address of each of the families.
+    fn first_pool(
+        &self,
+        pools: &[&CompiledPool],
+        families: &[Family],
+    ) -> Result<Option<Record>, NoMemory>
+        requires holder { KnowsService self.now }
+        requires among { All (λ p. AreAmong self.now.book.now.entries p.now) pools.now }
+        ensures { IfOk result (λ found. found ≡ first_pool self.now.book.now.claims
+            (asking self.now.service.now self.now.terms.now) families.now
+            (map (λ p. p.now) pools.now)) }
+    {
+        // The entries of a pool mostly stand after those of the one before it.
+        let mut near = 0;
+        for pool in pools {
+            let first = first_place(self.book, pool, near);
+            if let Some(addresses) = self.least_each(pool, families, first)? {
+                return Ok(Some(record_in(pool, self.terms, addresses)?));
+            }
+            near = place_after(first, pool);
+        }
+        Ok(None)
+    }
+
+    /// The same for the first of the families that a pool has an address of.
+    fn first_alone(
+        &self,
+        pools: &[&CompiledPool],
+        families: &[Family],
+    ) -> Result<Option<Record>, NoMemory>
+        requires holder { KnowsService self.now }
+        requires among { All (λ p. AreAmong self.now.book.now.entries p.now) pools.now }
+        ensures { IfOk result (λ found. found ≡ first_of self.now.book.now.claims
+            (asking self.now.service.now self.now.terms.now) (map (λ p. p.now) pools.now)
+            (map (λ family. family ∷ []) families.now)) }
+    {
+        for family in families {
+            let found = self.first_pool(pools, &[*family])?;
+            if found.is_some() {
+                return Ok(found);
+            }
+        }
+        Ok(None)
+    }
+
+    /// What the first pool gives that has an address of each family, and where none has, of one
+    /// family that will do alone.
+    fn first_option(&self, pools: &[&CompiledPool]) -> Result<Option<Record>, NoMemory>
+        requires holder { KnowsService self.now }
+        requires among { All (λ p. AreAmong self.now.book.now.entries p.now) pools.now }
+        ensures { IfOk result (λ found. found ≡ first_option self.now.book.now.claims
+            (asking self.now.service.now self.now.terms.now) (map (λ p. p.now) pools.now)) }
+    {
+        let found = self.first_pool(pools, self.service.families.as_slice())?;
         if found.is_some() {
             return Ok(found);
         }
+        self.first_alone(pools, alone_of(self.service))
     }
-    Ok(None)
 }
 
 /// What the first pool gives that has an address of each family, and where none has, of one family
-/// that will do alone.
+/// that will do alone. Whether the service has a claim is asked once.
 pub(crate) fn first_option(
     alloc: Global,
     book: &Book,
@@ -450,10 +497,12 @@ pub(crate) fn first_option(
         ≡ first_option book.now.claims (asking service.now terms.now)
         (map (λ p. p.now) pools.now)) }
 {
-    let families = service.families.as_slice();
-    let found = first_pool(alloc, book, pools, families, service, terms)?;
-    if found.is_some() {
-        return Ok(found);
-    }
-    first_alone(alloc, book, pools, alone_of(service), service, terms)
+    let search = PoolSearch {
+        alloc,
+        book,
+        service,
+        terms,
+        is_holder: book.has_claims(&service.key),
+    };
+    search.first_option(pools)
 }

@@ -1,9 +1,10 @@
 -- What is found by a number.
 use Rattle.std.proofs.Common.{◌≡◌, ℕ, ◌+◌, ◌-◌, ◌≤◌, ◌<◌, Bool, true, false, cond, List, [], ◌∷◌, Option, Some, arith, refl, ap, ◌∙◌}
-use Rattle.std.proofs.Common.{⊎_elim, length, subst}
+use Rattle.std.proofs.Common.{⊎_elim, length, subst, sym}
 use Rattle.std.proofs.lemmas.Bool.{leb-true, le-leb, cases_lt}
 use Rattle.std.proofs.lemmas.Option.{slice_get_within}
 use Rattle.ip_ranges.specs.declared.family.Family.{Family}
+use Rattle.ip_ranges.specs.declared.family.Family.TheVariants.{V4, V6}
 use Rattle.ip_ranges.specs.Values.{AddressValue}
 use Rattle.full_entries.specs.declared.entries.Entry.{Entry}
 use Rattle.full_entries.specs.declared.order.FamilyOrder.{FamilyOrder}
@@ -62,3 +63,20 @@ all-found family entries order place all before i e at = let within = slice_get_
 pub found-by : (family : Family) (entries : List Entry) (order : FamilyOrder) (a : AddressValue) (found : Option ℕ) → AreFound family entries order
     → a.family ≡ family → found ≡ place_at order a.number → (i : ℕ) (e : Entry) → slice_get entries i ≡ Some e → HasAddress a e → found ≡ Some i
 found-by family entries order a found are of is i e at has_it = is ∙ are i e at (has_it.0 ∙ of) a.number has_it.1 has_it.2
+
+-- one entry alone has an address
+one-place : (family : Family) (entries : List Entry) (order : FamilyOrder) (a : AddressValue) → AreFound family entries order → a.family ≡ family
+    → (i j : ℕ) (e f : Entry) → slice_get entries i ≡ Some e → slice_get entries j ≡ Some f → HasAddress a e → HasAddress a f → i ≡ j
+one-place family entries order a are of i j e f at there has_i has_j =
+    let found = found-by family entries order a (place_at order a.number) are of refl in
+    let same : Some i ≡ Some j = sym (found i e at has_i) ∙ found j f there has_j in
+    cc
+
+pub only-place : (entries : List Entry) (v4 v6 : FamilyOrder) (a : AddressValue) → AreFound V4 entries v4 → AreFound V6 entries v6
+    → (i j : ℕ) (e f : Entry) → slice_get entries i ≡ Some e → slice_get entries j ≡ Some f → HasAddress a e → HasAddress a f → i ≡ j
+only-place entries v4 v6 a of_v4 of_v6 = by a.family refl
+  where
+    by : (family : Family) → a.family ≡ family → (i j : ℕ) (e f : Entry) → slice_get entries i ≡ Some e → slice_get entries j ≡ Some f
+        → HasAddress a e → HasAddress a f → i ≡ j
+    by V4 is = one-place V4 entries v4 a of_v4 is
+    by V6 is = one-place V6 entries v6 a of_v6 is

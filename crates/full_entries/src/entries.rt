@@ -1,6 +1,6 @@
 //! Entries of pools, and which of them are known to be full.
 ghost use Rattle.std.specs.Prelude.{◌≡◌, ◌≤◌, ◌<◌, ◌==◌, ◌&&◌, ◌||◌, ◌++◌, [], ℕ, true, not, Some};
-ghost use Rattle.std.specs.Prelude.{OnOk, IfOk, slice_get};
+ghost use Rattle.std.specs.Prelude.{OnOk, IfOk, IsTrue, slice_get};
 ghost use Rattle.mlb_base.specs.Items.{is_nil};
 ghost use Rattle.number_sets.specs.Runs.{has};
 ghost use Rattle.full_entries.specs.declared.entries.Entry.{Entry};
@@ -35,6 +35,13 @@ impl Entry {
             high: span.high,
             avoiding,
         }
+    }
+
+    /// Whether the entry has the address.
+    fn has(&self, address: &Address) -> bool
+        ensures { IsTrue result → HasAddress address.now self.now }
+    {
+        self.family == address.family && self.low <= address.number && address.number <= self.high
     }
 }
 
@@ -126,6 +133,28 @@ impl FullEntries {
         match address.family {
             Family::V4 => self.v4.place_at(address.number),
             Family::V6 => self.v6.place_at(address.number),
+        }
+    }
+
+    /// The same; at once where it is the place that is near.
+    pub(crate) fn place_near(&self, near: usize, address: &Address) -> Option<usize>
+        ensures { (i : ℕ) (e : Entry) → slice_get self.now.entries i ≡ Some e
+            → HasAddress address.now e → result ≡ Some i }
+    {
+        if self.is_at(near, address) {
+            return Some(near);
+        }
+        self.place_of(address)
+    }
+
+    /// Whether the entry at the place has the address, which no other entry has then.
+    fn is_at(&self, place: usize, address: &Address) -> bool
+        ensures { IsTrue result → (i : ℕ) (e : Entry) → slice_get self.now.entries i ≡ Some e
+            → HasAddress address.now e → i ≡ place }
+    {
+        match entry_at(self.entries.as_slice(), place) {
+            Some(entry) => entry.has(address),
+            None => false,
         }
     }
 

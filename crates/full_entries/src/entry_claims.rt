@@ -127,11 +127,13 @@ impl EntryClaims {
     }
 
     /// The place of the entry that has the address. Where none has it, that of any may be answered.
-    pub fn place_of(&self, address: &Address) -> Option<usize>
+    /// It is found at once where it is the place that is near, else in the logarithm of the number
+    /// of entries.
+    pub fn place_near(&self, near: usize, address: &Address) -> Option<usize>
         ensures { (i : ℕ) (e : Entry) → slice_get self.now.entries i ≡ Some e
             → HasAddress address.now e → result ≡ Some i }
     {
-        self.entries.place_of(address)
+        self.entries.place_near(near, address)
     }
 
     /// From this place on the first one before the end whose entry isn't known to be full: all in

@@ -1,9 +1,0 @@
-use Rattle.std.proofs.Common.{◌≡◌, ◌∷◌, [], drop, map}
-use Rattle.alloc_book.specs.Asking.{asking}
-use Rattle.alloc_book.specs.Search.{first_of}
-use Rattle.alloc_book.proofs.search.first_alone.Given as goal
-
-abbrev pub invariant-loop-family : goal.invariant-loop-family
-invariant-loop-family l =
-    first_of l.book.claims (asking l.service l.terms) (map (λ p. p.now) l.pools) (map (λ family. family ∷ []) (drop l.family-index l.families))
-    ≡ first_of l.book.claims (asking l.service l.terms) (map (λ p. p.now) l.pools) (map (λ family. family ∷ []) l.families)

@@ -1,23 +1,23 @@
 -- A line of which only what is read is kept is read as it is whole.
-use Rattle.std.proofs.Common.{◌≡◌, ℕ, List, [], ◌∷◌, Option, Some, None, Result, Ok, Err, Ordering, Less, Equal, Greater, option_map, is_eq, is_some, refl, sym, ap, ◌∙◌, codes, option_and_then, nat_cmp}
+use Rattle.std.proofs.Common.{◌≡◌, ℕ, List, [], ◌∷◌, Option, Some, None, Result, Ok, Err, Ordering, Less, Equal, Greater, option_map, is_eq, refl, sym, ap, ◌∙◌, codes, option_and_then, nat_cmp}
 use Rattle.std.specs.Prelude.{⊤}
 use Rattle.std.proofs.lemmas.Map.Text.{is_eq-slice_cmp}
 use Rattle.std.proofs.lemmas.Slice.Eq.{bytes_eq-Decides}
 use Rattle.std.specs.Cmp.Lexicographic.{slice_cmp}
 use Rattle.serde_json.specs.Data.{Data, null, boolean, number, string, array, object, Items, no_items, item, Members, no_members, member}
-use Rattle.serde_json.specs.Find.{get, get_member, as_object, as_str, as_array}
+use Rattle.serde_json.specs.Find.{get, get_member, as_str, as_array}
 use Rattle.json_fields.specs.Path.{Path, names_of}
 use Rattle.json_fields.specs.Reading.{◌>>=◌, member_at, behind, where_there, unless_null, value_at}
 use Rattle.json_fields.specs.Alike.{Same, FoundAlike, At, ItemsAlike, ListsAlike, Each, SameMap}
 use Rattle.kube_model.specs.declared.object.Kind.{Kind}
 use Rattle.kube_model.specs.declared.object.Kind.TheVariants as kinds
 use Rattle.kube_model.specs.Named.{kind_named}
-use Rattle.kube_events.specs.Event.{text_in, end_annotation, event_of, event_if}
+use Rattle.kube_events.specs.Event.{text_in, end_annotation, event_if}
 use Rattle.kube_events.specs.Naming.{PortsAlike, PlacesAlike, ExpressionsAlike, SelectorsAlike, AllocationsAlike, NamedValuesAlike, EndpointsAlike}
-use Rattle.kube_events.specs.Naming.{BodiesAlike, ObjectsAlike, OfKindAlike, WatchedAlike, AreWatchedAlike, LinesAlike}
+use Rattle.kube_events.specs.Naming.{BodiesAlike, ObjectsAlike, OfKindAlike, AreWatchedAlike, LinesAlike}
 use Rattle.kube_events.proofs.NameLaws.{lines_go_by_name}
 use Rattle.json_values.specs.Kept.{Keep, all, only, Rows, row_of, with_found, kept, kept_members}
-use Rattle.json_values.specs.Places.{metadata_rows, status_rows, object_rows, line_rows}
+use Rattle.json_values.specs.Places.{metadata_rows, object_rows, line_rows}
 use Rattle.kube_events.specs.Kept.{read_of_line, KeptLinesAreRead}
 
 -- ---- members

@@ -57,20 +57,10 @@ fn object_with(key: Key, labels: Labels, spec: Spec) -> Object
     match spec {
         Spec::Service(spec) => Object::Service(service_with(key, labels, spec)),
         Spec::Pool(spec) => Object::Pool(pool_with(key, labels, spec)),
-        Spec::L2(spec) => {
-            drop(labels);
-            Object::L2(l2_with(key, spec))
-        }
-        Spec::Bgp(spec) => {
-            drop(labels);
-            Object::Bgp(bgp_with(key, spec))
-        }
-        Spec::Peer(spec) => {
-            drop(labels);
-            Object::Peer(peer_with(key, spec))
-        }
+        Spec::L2(spec) => Object::L2(l2_with(key, spec)),
+        Spec::Bgp(spec) => Object::Bgp(bgp_with(key, spec)),
+        Spec::Peer(spec) => Object::Peer(peer_with(key, spec)),
         Spec::Community(values) => {
-            drop(labels);
             let name = key.into_name();
             Object::Community(CommunityList { name, values })
         }
@@ -82,10 +72,7 @@ fn object_with(key: Key, labels: Labels, spec: Spec) -> Object
             let name = key.into_name();
             Object::Node(Node { name, labels })
         }
-        Spec::Slice(spec) => {
-            drop(labels);
-            Object::Slice(slice_with(key, spec))
-        }
+        Spec::Slice(spec) => Object::Slice(slice_with(key, spec)),
     }
 }
 

@@ -35,9 +35,7 @@ fn notes_from(alloc: Global, object: &BorrowedValue<'_>) -> Result<Notes, FieldF
     ensures { Gives (λ x. x) result (notes_of (view object.now)) }
 {
     let annotations = labels(alloc, object, "metadata.annotations")?;
-    let notes = notes_in(alloc, &annotations);
-    drop(annotations);
-    Ok(notes?)
+    Ok(notes_in(alloc, &annotations)?)
 }
 
 /// What these annotations say.
@@ -93,9 +91,7 @@ fn families(alloc: Global, object: &BorrowedValue<'_>, path: &str) -> Result<Fam
     ensures { Gives (λ x. x) result (families_at path.now (view object.now)) }
 {
     let named = list(alloc, object, path)?;
-    let families = families_from(alloc, path, named.as_slice());
-    drop(named);
-    families
+    families_from(alloc, path, named.as_slice())
 }
 
 /// The families that these name, or a fault at the path.

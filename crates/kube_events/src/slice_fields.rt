@@ -24,9 +24,7 @@ fn service_named(alloc: Global, object: &BorrowedValue<'_>) -> Result<Text, Fiel
     ensures { Gives (λ x. x) result (service_named (view object.now)) }
 {
     let labels = labels(alloc, object, "metadata.labels")?;
-    let service = pair_value(alloc, &labels, "kubernetes.io/service-name");
-    drop(labels);
-    Ok(service?)
+    Ok(pair_value(alloc, &labels, "kubernetes.io/service-name")?)
 }
 
 pub(crate) fn slice_spec(alloc: Global, object: &BorrowedValue<'_>) -> Result<SliceSpec, FieldFault>

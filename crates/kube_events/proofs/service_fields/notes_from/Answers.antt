@@ -10,11 +10,11 @@ returns-in_err-annotations c =
     let p = err_from_is_err_and c.from_residual.result c.from_residual.ensures.1 in
     rw (p.1, p.2) (Fails-bind c.in_err-annotations.field-0.0 _ _ c.in_err-annotations.ensures)
 
-pub returns-in_err-notes : goal.returns-in_err-notes
-returns-in_err-notes c =
-    let p = err_from_is_err_and c.from_residual-in_err-notes.result c.from_residual-in_err-notes.ensures.1 in
+pub returns-in_err-notes_in : goal.returns-in_err-notes_in
+returns-in_err-notes_in c =
+    let p = err_from_is_err_and c.from_residual-in_err-notes_in.result c.from_residual-in_err-notes_in.ensures.1 in
     rw (p.1, p.2) tt
 
 pub returns : goal.returns
 unfolding notes_of
-returns c = rw (c.in_ok-annotations.ensures, c.in_ok-notes.ensures) refl
+returns c = rw (c.in_ok-annotations.ensures, c.in_ok-notes_in.ensures) refl

@@ -1,8 +1,8 @@
 -- Lists of runs.
-use Rattle.std.proofs.Common.{◌≡◌, ◌≤◌, ◌<◌, ◌+◌, ℕ, zero, suc, Bool, true, false, cond, ◌||◌, eqb, leb, ltb, List, []}
+use Rattle.std.proofs.Common.{◌≡◌, ◌≤◌, ◌<◌, ◌+◌, ℕ, zero, Bool, true, false, cond, ◌||◌, leb, ltb, List, []}
 use Rattle.std.proofs.Common.{◌∷◌, ◌++◌, length, Option, Some, None, refl, sym, ap, ◌∙◌, subst, arith, ⊎_elim}
 use Rattle.std.proofs.lemmas.Bool.{or_from, or_left, or_right, and_from, and_left, and_right, lt-leb, le-leb, lt-ltb, le-ltb, leb-true, leb-false, ltb-true, ltb-false, cases_lt, true≢false, and_parts}
-use Rattle.std.specs.Prelude.{◌↔◌, ◌==◌}
+use Rattle.std.specs.Prelude.{◌↔◌}
 use Rattle.number_sets.specs.declared.run.Run.{Run}
 use Rattle.number_sets.specs.RunLists.{is_in_run, has_number, AreRunsFrom, count_numbers, size_of, insert_run, first_from, IsFirstRun, IsRunOf}
 

@@ -1,5 +1,5 @@
 -- Trees of runs.
-use Rattle.std.proofs.Common.{◌≡◌, ◌≤◌, ◌<◌, ◌+◌, max, ℕ, Bool, true, false, List, [], ◌∷◌, ◌++◌, Option, Some, None, IfSome, IfNone, sym, ap, ◌∙◌, subst, arith}
+use Rattle.std.proofs.Common.{◌≡◌, ◌≤◌, ◌<◌, ◌+◌, max, ℕ, true, false, List, ◌∷◌, ◌++◌, Option, Some, None, IfSome, IfNone, sym, ap, ◌∙◌, subst, arith}
 use Rattle.number_sets.specs.declared.run.Run.{Run}
 use Rattle.number_sets.specs.declared.tree.Tree.{Tree}
 use Rattle.number_sets.specs.RunLists.{is_in_run, has_number, AreRunsFrom, AreSplitBy, count_numbers, insert_run}

@@ -1,5 +1,5 @@
 -- Balanced trees of runs.
-use Rattle.std.specs.Prelude.{◌≡◌, ◌≤◌, ◌<◌, ◌+◌, ◌^◌, ℕ, Bool, max, List, [], ◌∷◌, ◌++◌, ⊤}
+use Rattle.std.specs.Prelude.{◌≡◌, ◌≤◌, ◌+◌, ℕ, Bool, max, List, [], ◌∷◌, ◌++◌, ⊤}
 use Rattle.number_sets.specs.declared.run.Run.{Run}
 use Rattle.number_sets.specs.declared.tree.Tree.{Tree, Empty, Fork'}
 use Rattle.number_sets.specs.Heights.{DifferByAtMost}

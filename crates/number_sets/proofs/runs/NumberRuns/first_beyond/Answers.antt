@@ -1,11 +1,9 @@
-use Rattle.std.proofs.Common.{◌≡◌, ◌-◌, ℕ, Bool, true, Option, Some, None, IfSome, IfNone, ap, sym, ◌∙◌, arith}
-use Rattle.number_sets.specs.Counts.{count_below, is_up_to, is_beyond}
-use Rattle.number_sets.specs.Least.{IsLeastIn, NonePasses}
-use Rattle.number_sets.specs.declared.run.Run.{Run}
+use Rattle.std.proofs.Common.{◌≡◌, ◌-◌, ℕ, true, ap, sym, ◌∙◌, arith}
+use Rattle.number_sets.specs.Counts.{count_below, is_up_to}
 use Rattle.number_sets.specs.RunLists.{has_number, last_passing}
 use Rattle.number_sets.specs.Runs.{RunsValue, has}
 use Rattle.number_sets.specs.Trees.{runs_of}
-use Rattle.number_sets.proofs.CountLaws.{IsLast, last-some, beyond-none, beyond-some, beyond-nothing, beyond-split}
+use Rattle.number_sets.proofs.CountLaws.{last-some, beyond-none, beyond-some, beyond-nothing, beyond-split}
 use Rattle.number_sets.proofs.runs.NumberRuns.first_beyond.Goals as goal
 use Rattle.number_sets.proofs.runs.NumberRuns.first_beyond.Goals.{After-last_up_to}
 

@@ -1,6 +1,6 @@
-use Rattle.std.proofs.Common.{◌≡◌, ◌≤◌, ◌<◌, ◌+◌, ◌-◌, ◌||◌, ◌==◌, ℕ, false, List, ap, sym, subst, ◌∙◌, arith}
+use Rattle.std.proofs.Common.{◌≡◌, ◌+◌, ◌-◌, ◌||◌, ◌==◌, ℕ, false, List, ap, sym, subst, ◌∙◌, arith}
 use Rattle.number_sets.specs.declared.run.Run.{Run}
-use Rattle.number_sets.specs.RunLists.{AreRunsFrom, AreBefore, AreBehind, AreHeld, count_numbers, has_number}
+use Rattle.number_sets.specs.RunLists.{AreRunsFrom, AreBefore, AreBehind, count_numbers, has_number}
 use Rattle.number_sets.specs.Runs.{RunsValue, has}
 use Rattle.number_sets.specs.Trees.{runs_of}
 use Rattle.number_sets.proofs.EditLaws.{joined-apart, joined-has, joined-count}

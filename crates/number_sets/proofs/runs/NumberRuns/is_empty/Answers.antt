@@ -1,4 +1,3 @@
-use Rattle.std.proofs.Common.{◌≡◌}
 use Rattle.number_sets.specs.Runs.{has}
 use Rattle.number_sets.specs.Trees.{runs_of}
 use Rattle.number_sets.proofs.RunLaws.{empty-where}

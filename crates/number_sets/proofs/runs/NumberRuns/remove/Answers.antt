@@ -1,6 +1,5 @@
-use Rattle.std.proofs.Common.{◌≡◌, ◌≤◌, ◌<◌, ◌+◌, ◌-◌, ◌&&◌, ◌==◌, not, ℕ, true, false, List, ap, sym, ◌∙◌, arith}
-use Rattle.number_sets.specs.declared.run.Run.{Run}
-use Rattle.number_sets.specs.RunLists.{AreBefore, AreBehind, AreHeld, count_numbers, has_number, insert_run, is_in_run}
+use Rattle.std.proofs.Common.{◌≡◌, ◌-◌, ◌&&◌, ◌==◌, not, ℕ, true, false, ap, arith}
+use Rattle.number_sets.specs.RunLists.{AreBefore, AreBehind, count_numbers, has_number, insert_run, is_in_run}
 use Rattle.number_sets.specs.Runs.{RunsValue, has}
 use Rattle.number_sets.specs.Trees.{runs_of}
 use Rattle.number_sets.proofs.EditLaws.{cut-within, cut-count, cut-up, cut-clear, cut-clear-behind, cut-has, none-goes}

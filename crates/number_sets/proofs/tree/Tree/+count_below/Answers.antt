@@ -1,4 +1,4 @@
-use Rattle.std.proofs.Common.{◌≡◌, ◌≤◌, ◌<◌, ℕ, List, ap, sym, ◌∙◌, arith}
+use Rattle.std.proofs.Common.{◌≤◌, List, ap, sym, ◌∙◌, arith}
 use Rattle.number_sets.specs.Counts.{count_below}
 use Rattle.number_sets.specs.declared.run.Run.{Run}
 use Rattle.number_sets.specs.RunLists.{has_number}

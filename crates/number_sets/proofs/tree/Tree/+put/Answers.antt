@@ -1,4 +1,3 @@
-use Rattle.std.proofs.Common.{◌≡◌}
 use Rattle.number_sets.specs.Trees.{runs_of}
 use Rattle.number_sets.proofs.TreeLaws.{put-left, put-right}
 use Rattle.number_sets.proofs.tree.Tree.+put.Goals as goal

@@ -1,5 +1,4 @@
-use Rattle.std.proofs.Common.{◌≡◌}
-use Rattle.number_sets.specs.Trees.{IsForkOf, runs_of}
+use Rattle.number_sets.specs.Trees.{runs_of}
 use Rattle.number_sets.proofs.TreeLaws.{some-by, none-by, take-left, take-right, take-here, absent-left, absent-right}
 use Rattle.number_sets.proofs.tree.Tree.+take.Goals as goal
 

@@ -1,4 +1,4 @@
-use Rattle.std.proofs.Common.{◌≡◌, ap, subst}
+use Rattle.std.proofs.Common.{ap, subst}
 use Rattle.number_sets.specs.Trees.{IsBalanced, IsForkOf, height_of, runs_of}
 use Rattle.number_sets.proofs.TreeLaws.{fork-of}
 use Rattle.number_sets.proofs.tree.Tree.parts.Goals as goal

@@ -1,18 +1,15 @@
 -- How many numbers pass, and how many stand in runs before others.
-use Rattle.std.proofs.Common.{◌≡◌, ◌≤◌, ◌<◌, ◌+◌, ◌-◌, ℕ, zero, suc, Bool, true, false, cond, not, ◌&&◌, ◌||◌, leb, leb-true, List, []}
-use Rattle.std.proofs.Common.{◌∷◌, ◌++◌, length, get_or, take, drop, Option, Some, None, IfSome, IfNone, refl, sym, ap, ◌∙◌, subst, arith, ⊎_elim}
-use Rattle.std.proofs.Common.{eq-or-lt_of_le, add-one}
-use Rattle.std.proofs.lemmas.Bool.{and_from, cases_lt, false_from_ne_true, leb-false}
+use Rattle.std.proofs.Common.{◌≡◌, ◌≤◌, ◌<◌, ◌+◌, ◌-◌, ℕ, zero, suc, Bool, true, false, cond, not, ◌&&◌, ◌||◌, leb, List, []}
+use Rattle.std.proofs.Common.{◌∷◌, ◌++◌, Option, Some, None, IfSome, IfNone, refl, sym, ap, subst, ◌∙◌, arith, ⊎_elim}
+use Rattle.std.proofs.Common.{eq-or-lt_of_le}
+use Rattle.std.proofs.lemmas.Bool.{and_from, cases_lt, false_from_ne_true, leb-true, leb-false, lt-leb, or_from, or_left, or_right, and_right, lt-leb}
 use Rattle.std.proofs.lemmas.Bool.Decides.{nat_tests}
-use Rattle.std.proofs.lemmas.Option.{slice_get_within, get_or_from_slice_get}
-use Rattle.std.proofs.Math.ListN.{set}
-use Rattle.std.specs.List.{slice_get, insert, remove}
-use Rattle.std.specs.List.Sorted.{IsNonDecreasingBy, IsPartitionPoint}
-use Rattle.number_sets.specs.declared.runs.Run.{Run}
-use Rattle.number_sets.specs.Counts.{count_below}
+use Rattle.number_sets.specs.declared.run.Run.{Run}
+use Rattle.number_sets.specs.Counts.{count_below, is_up_to}
 use Rattle.number_sets.specs.Least.{IsLeastIn, NonePasses}
-use Rattle.number_sets.specs.RunLists.{has_number, AreCountedTo, AreRunsFrom, count_numbers, IsFound}
-use Rattle.number_sets.proofs.RunLaws.{lower, none-below, drop-at, drop-past, ends-from, ends-ascend, has-at, absent-past, absent-before}
+use Rattle.number_sets.specs.RunLists.{is_in_run, has_number, AreRunsFrom, AreSplitBy, count_numbers, size_of, last_passing, or_else}
+use Rattle.std.specs.List.{list_any}
+use Rattle.number_sets.proofs.RunLaws.{lower, none-below, in-here, front-up, back-up, middle-up}
 
 -- ---- counts of what passes a test
 module _ (test : ℕ → Bool) where
@@ -87,203 +84,169 @@ rank-is : (runs : List Run) (m : ℕ) → AreRunsFrom 0 runs → count_below (ha
 rank-is runs zero up = sym (rank-low 0 runs 0 up (omega arith))
 rank-is runs (suc m) up = ap (λ (n : ℕ). cond (has_number runs m) 1 0 + n) (rank-is runs m up) ∙ sym (rank-next 0 runs m up)
 
-rank-behind : (m : ℕ) (runs : List Run) (i : ℕ) → i ≤ length runs → ((k : ℕ) (d : Run) → k < i → (get_or runs k d).last < m)
-    → rank runs m ≡ count_numbers (take i runs) + rank (drop i runs) m
-rank-behind m runs zero within before = omega arith
-rank-behind m [] (suc i) within before = absurd (omega (arith, within))
-rank-behind m (r ∷ rs) (suc i) within before =
-    let here : r.last < m = before 0 r (omega arith) in
-    let rest = rank-behind m rs i (omega (arith, within)) (λ k d below. before (suc k) d (omega (arith, below))) in
-    omega (arith, here, rest)
+-- ---- the runs in front of a run and behind it
+rank-append : (a b : List Run) (m : ℕ) → rank (a ++ b) m ≡ rank a m + rank b m
+rank-append [] b m = omega arith
+rank-append (r ∷ a) b m = let rest = rank-append a b m in omega (arith, rest)
 
-first-at : (low : ℕ) (runs : List Run) (i : ℕ) (r : Run) → AreRunsFrom low runs → slice_get runs i ≡ Some r
-    → (low ≤ r.first) × (r.first ≤ r.last) × AreRunsFrom (r.last + 2) (drop (suc i) runs)
-first-at low [] i r up e = absurd (cc)
-first-at low (x ∷ xs) zero r up e = let same : x ≡ r = cc in subst (λ (y : Run). (low ≤ y.first) × (y.first ≤ y.last) × AreRunsFrom (y.last + 2) xs) same up
-first-at low (x ∷ xs) (suc i) r up e =
-    let rest = first-at (x.last + 2) xs i r up.2 e in (omega (arith, rest.0, up.0, up.1), rest.1, rest.2)
+module _ (k : Run) (b : List Run) where
+  rank-front : (m low : ℕ) (a : List Run) → AreRunsFrom low (a ++ k ∷ b) → k.first ≤ m → rank a m ≡ count_numbers a
+  rank-front m low [] up from = refl
+  rank-front m low (x ∷ a) up from =
+      let at = middle-up k b (x.last + 2) a up.2 in
+      let rest = rank-front m (x.last + 2) a up.2 from in
+      omega (arith, rest, at.0, from)
 
--- what is counted below a number for which the run was found
-module _ (m : ℕ) (runs : List Run) (i : ℕ) (found : IsFound m runs i) where
-  less-ends : (k : ℕ) (d : Run) → k < i → (get_or runs k d).last < m
-  less-ends k d below = found.point.0 k d (omega arith) below
+  module _ (a : List Run) (up : AreRunsFrom 0 (a ++ k ∷ b)) (m : ℕ) where
+    rank-apart : count_below (has_number (a ++ k ∷ b)) m ≡ rank a m + (((k.last + 1 - k.first) - (k.last + 1 - m)) + rank b m)
+    rank-apart = rank-is (a ++ k ∷ b) m up ∙ rank-append a (k ∷ b) m
 
-  pub counted-past : slice_get runs i ≡ None → count_below (has_number runs) m ≡ count_numbers runs
-  counted-past e =
-      rank-is runs m found.apart ∙ rank-behind m runs i found.within less-ends
-      ∙ ap (λ (rs : List Run). count_numbers (take i runs) + rank rs m) (drop-past runs i e)
-      ∙ taken-all runs i e
-    where
-      taken-all : (xs : List Run) (j : ℕ) → slice_get xs j ≡ None → count_numbers (take j xs) + 0 ≡ count_numbers xs
-      taken-all [] zero e = refl
-      taken-all [] (suc j) e = refl
-      taken-all (x ∷ xs) zero e = absurd (cc)
-      taken-all (x ∷ xs) (suc j) e = let rest = taken-all xs j e in omega (arith, rest)
+    -- up to the run
+    pub count-left : m ≤ k.first → count_below (has_number (a ++ k ∷ b)) m ≡ count_below (has_number a) m
+    count-left upto =
+        let ascends = (middle-up k b 0 a up).1 in
+        let none = rank-low (k.last + 2) b m (back-up k b 0 a up) (omega (arith, upto, ascends)) in
+        let left = rank-is a m (front-up k b 0 a up) in
+        omega (arith, rank-apart, none, left, upto, ascends)
 
-  pub counted-at : (r : Run) → slice_get runs i ≡ Some r → count_below (has_number runs) m ≡ count_numbers (take i runs) + (m - r.first)
-  counted-at r e =
-      let at = first-at 0 runs i r found.apart e in
-      let upto = ends-from m runs i r found.point e in
-      let none = rank-low (r.last + 2) (drop (suc i) runs) m at.2 (omega (arith, upto)) in
-      let all : rank (drop i runs) m ≡ rank (r ∷ drop (suc i) runs) m = ap (λ (rs : List Run). rank rs m) (drop-at runs i r e) in
-      let is = rank-is runs m found.apart in
-      let behind = rank-behind m runs i found.within less-ends in
-      omega (arith, is, behind, all, none, upto, at.1)
+    -- in the run
+    pub count-in : k.first ≤ m → m ≤ k.last → count_below (has_number (a ++ k ∷ b)) m ≡ count_numbers a + (m - k.first)
+    count-in from upto =
+        let none = rank-low (k.last + 2) b m (back-up k b 0 a up) (omega (arith, upto)) in
+        let front = rank-front m 0 a up from in
+        omega (arith, rank-apart, none, front, from, upto)
 
--- ---- counts of runs that are taken
-pub taken-next : (runs : List Run) (i : ℕ) (d : Run) → i < length runs
-    → count_numbers (take (i + 1) runs) ≡ count_numbers (take i runs) + ((get_or runs i d).last + 1 - (get_or runs i d).first)
-taken-next runs i d within = ap (λ (n : ℕ). count_numbers (take n runs)) (add-one i) ∙ by runs i within
-  where
-    by : (xs : List Run) (j : ℕ) → j < length xs
-        → count_numbers (take (suc j) xs) ≡ count_numbers (take j xs) + ((get_or xs j d).last + 1 - (get_or xs j d).first)
-    by [] j within = absurd (omega (arith, within))
-    by (x ∷ xs) zero within = omega arith
-    by (x ∷ xs) (suc j) within = let rest = by xs j (omega (arith, within)) in omega (arith, rest)
+    -- behind it
+    pub count-right : k.last < m → count_below (has_number (a ++ k ∷ b)) m ≡ count_numbers a + size_of k + count_below (has_number b) m
+    count-right past =
+        let ascends = (middle-up k b 0 a up).1 in
+        let front = rank-front m 0 a up (omega (arith, past, ascends)) in
+        let right = rank-is b m (lower (k.last + 2) 0 b (omega arith) (back-up k b 0 a up)) in
+        omega (arith, rank-apart, front, right, past, ascends)
 
-taken-fewer : (runs : List Run) (i : ℕ) → count_numbers (take i runs) ≤ count_numbers runs
-taken-fewer [] zero = omega arith
-taken-fewer [] (suc i) = omega arith
-taken-fewer (x ∷ xs) zero = omega arith
-taken-fewer (x ∷ xs) (suc i) = let rest = taken-fewer xs i in omega (arith, rest)
+rank-few : (low : ℕ) (runs : List Run) (m : ℕ) → rank runs m ≤ count_numbers runs
+rank-few low [] m = omega arith
+rank-few low (r ∷ rs) m = let rest = rank-few low rs m in omega (arith, rest)
 
-pub run-ascends : (low : ℕ) (runs : List Run) (i : ℕ) (d : Run) → AreRunsFrom low runs → i < length runs → (get_or runs i d).first ≤ (get_or runs i d).last
-run-ascends low [] i d up within = absurd (omega (arith, within))
-run-ascends low (r ∷ rs) zero d up within = up.1
-run-ascends low (r ∷ rs) (suc i) d up within = run-ascends (r.last + 2) rs i d up.2 (omega (arith, within))
+pub below-all : (runs : List Run) (m : ℕ) → AreRunsFrom 0 runs → count_below (has_number runs) m ≤ count_numbers runs
+below-all runs m up = omega (arith, rank-is runs m up, rank-few 0 runs m)
 
--- those of a run and the runs before it are no more than all
-pub run-fits : (runs : List Run) (i : ℕ) (d : Run) → i < length runs
-    → count_numbers (take i runs) + ((get_or runs i d).last + 1 - (get_or runs i d).first) ≤ count_numbers runs
-run-fits runs i d within =
-    let next = taken-next runs i d within in
-    let fewer = taken-fewer runs (i + 1) in
-    omega (arith, next, fewer)
+pub below-none : (m : ℕ) → count_below (has_number []) m ≡ 0
+below-none zero = refl
+below-none (suc m) = let rest = below-none m in omega (arith, rest)
 
-pub run-held : (runs : List Run) (i : ℕ) (r : Run) → slice_get runs i ≡ Some r → count_numbers (take i runs) + (r.last + 1 - r.first) ≤ count_numbers runs
-run-held runs i r e =
-    subst (λ (q : Run). count_numbers (take i runs) + (q.last + 1 - q.first) ≤ count_numbers runs) (get_or_from_slice_get runs i r r e)
-    (run-fits runs i r (slice_get_within runs i r e))
+-- ---- the last run that passes
+or-parts : (x y : Bool) → (x || y) ≡ false → (x ≡ false) × (y ≡ false)
+or-parts true y none = absurd (cc)
+or-parts false y none = (refl, none)
 
-pub past-none : (runs : List Run) (i : ℕ) → slice_get runs i ≡ None → length runs ≤ i
-past-none [] i e = omega arith
-past-none (x ∷ xs) zero e = absurd (cc)
-past-none (x ∷ xs) (suc i) e = let rest = past-none xs i e in omega (arith, rest)
+module _ (test : Run → Bool) where
+  none-front : (a c : List Run) → list_any test (a ++ c) ≡ false → list_any test a ≡ false
+  none-front [] c none = refl
+  none-front (x ∷ a) c none = let parts = or-parts (test x) (list_any test (a ++ c)) none in or_from (test x) (list_any test a) parts.0 (none-front a c parts.1)
 
--- ---- counts that are taken and put after others
-pub length-taken : (before : List ℕ) (i : ℕ) → i ≤ length before → length (take i before) ≡ i
-length-taken before zero within = refl
-length-taken [] (suc i) within = absurd (omega (arith, within))
-length-taken (x ∷ xs) (suc i) within = let rest = length-taken xs i (omega (arith, within)) in omega (arith, rest)
+  pub split-left : (a c : List Run) → AreSplitBy test (a ++ c) → AreSplitBy test a
+  split-left [] c is = tt
+  split-left (x ∷ a) c is = (λ fails. none-front a c (is.0 fails), split-left a c is.1)
 
-pub length-put : (before : List ℕ) (x : ℕ) → length (before ++ x ∷ []) ≡ length before + 1
-length-put [] x = refl
-length-put (y ∷ ys) x = let rest = length-put ys x in omega (arith, rest)
+  pub split-right : (a c : List Run) → AreSplitBy test (a ++ c) → AreSplitBy test c
+  split-right [] c is = is
+  split-right (x ∷ a) c is = split-right a c is.1
 
-get-taken : (before : List ℕ) (n k : ℕ) → k < n → get_or (take n before) k 0 ≡ get_or before k 0
-get-taken before zero k less = absurd (omega (arith, less))
-get-taken [] (suc n) k less = refl
-get-taken (x ∷ xs) (suc n) zero less = refl
-get-taken (x ∷ xs) (suc n) (suc k) less = get-taken xs n k (omega (arith, less))
+  none-last : (runs : List Run) → list_any test runs ≡ false → last_passing test runs ≡ None
+  none-last [] none = refl
+  none-last (x ∷ xs) none = let parts = or-parts (test x) (list_any test xs) none in rw (none-last xs parts.1, parts.0) refl
 
-pub counted-taken : (runs : List Run) (before : List ℕ) (i : ℕ) → AreCountedTo i runs before → AreCountedTo i runs (take i before)
-counted-taken runs before i counts k less = get-taken before i k less ∙ counts k less
+  -- where the run in the middle fails, the last is in front of it
+  pub last-left : (k : Run) (a b : List Run) → AreSplitBy test (a ++ k ∷ b) → test k ≡ false → last_passing test (a ++ k ∷ b) ≡ last_passing test a
+  last-left k [] b is fails = rw (none-last b (is.0 fails), fails) refl
+  last-left k (y ∷ a) b is fails = ap (λ (o : Option Run). or_else o (cond (test y) (Some y) None)) (last-left k a b is.1 fails)
 
-get-put : (before : List ℕ) (x k : ℕ) → k < length before → get_or (before ++ x ∷ []) k 0 ≡ get_or before k 0
-get-put [] x k less = absurd (omega (arith, less))
-get-put (y ∷ ys) x zero less = refl
-get-put (y ∷ ys) x (suc k) less = get-put ys x k (omega (arith, less))
+  else-grouped : (o p q : Option Run) → or_else (or_else o p) q ≡ or_else o (or_else p q)
+  else-grouped None p q = refl
+  else-grouped (Some r) p q = refl
 
-get-last : (before : List ℕ) (x : ℕ) → get_or (before ++ x ∷ []) (length before) 0 ≡ x
-get-last [] x = refl
-get-last (y ∷ ys) x = get-last ys x
+  -- where it passes, the last is this one or behind it
+  pub last-right : (k : Run) (a b : List Run) → test k ≡ true → last_passing test (a ++ k ∷ b) ≡ or_else (last_passing test b) (Some k)
+  last-right k [] b passes = rw passes refl
+  last-right k (y ∷ a) b passes =
+      ap (λ (o : Option Run). or_else o (cond (test y) (Some y) None)) (last-right k a b passes)
+      ∙ else-grouped (last_passing test b) (Some k) (cond (test y) (Some y) None)
 
-pub counted-put : (runs : List Run) (before : List ℕ) (i x : ℕ) → length before ≡ i → AreCountedTo i runs before → x ≡ count_numbers (take i runs)
-    → AreCountedTo (i + 1) runs (before ++ x ∷ [])
-counted-put runs before i x long counts is k less =
-    ⊎_elim
-    (λ (old : k < i). get-put before x k (omega (arith, old, long)) ∙ counts k old)
-    (λ upto. let same : k ≡ length before = omega (arith, less, upto, long) in
-    ap (λ (n : ℕ). get_or (before ++ x ∷ []) n 0) same ∙ get-last before x ∙ is ∙ ap (λ (n : ℕ). count_numbers (take n runs)) (omega (arith, same, long)))
-    (cases_lt k i)
+-- What is next after the runs that pass.
+pub record IsNext (test : Run → Bool) (low : ℕ) (runs : List Run) (o : Option Run) : Type 0 where
+  pub fails : IfSome o (λ r. test r ≡ false)
+  pub ahead : (m : ℕ) → low ≤ m → IfSome o (λ r. m < r.first) → has_number runs m ≡ false
 
--- the runs in front are the same, and so are the counts before them
-taken-twice : (runs : List Run) (k i : ℕ) → k ≤ i → take k (take i runs) ≡ take k runs
-taken-twice runs zero i less = refl
-taken-twice runs (suc k) zero less = absurd (omega (arith, less))
-taken-twice [] (suc k) (suc i) less = refl
-taken-twice (r ∷ rs) (suc k) (suc i) less = ap (λ (xs : List Run). r ∷ xs) (taken-twice rs k i (omega (arith, less)))
+-- A run that passes, and what is next.
+pub record IsLast (test : Run → Bool) (low : ℕ) (runs : List Run) (r : Run) (o : Option Run) : Type 0 where
+  pub from : low ≤ r.first
+  pub ascends : r.first ≤ r.last
+  pub passes : test r ≡ true
+  pub all : (m : ℕ) → r.first ≤ m → m ≤ r.last → has_number runs m ≡ true
+  pub next : IsNext test (r.last + 1) runs o
 
-pub counted-kept : (old new : List Run) (before : List ℕ) (i : ℕ) → take i new ≡ take i old → i ≤ length old → AreCountedTo (length old) old before
-    → AreCountedTo i new before
-counted-kept old new before i same within counts k less =
-    counts k (omega (arith, less, within)) ∙ ap (λ (xs : List Run). count_numbers xs)
-    (sym (taken-twice old k i (omega (arith, less))) ∙ ap (λ (xs : List Run). take k xs) (sym same) ∙ taken-twice new k i (omega (arith, less)))
+fails-by : (x : Run) (o : Option Run) (t : Bool) → or_else o (cond t (Some x) None) ≡ None → t ≡ false
+fails-by x (Some r) t none = absurd (cc)
+fails-by x None true none = absurd (cc)
+fails-by x None false none = refl
 
-pub within-kept : (old new : List Run) (i : ℕ) → take i new ≡ take i old → i ≤ length old → i ≤ length new
-within-kept old new zero same within = omega arith
-within-kept [] new (suc i) same within = absurd (omega (arith, within))
-within-kept (x ∷ xs) [] (suc i) same within = absurd (cc)
-within-kept (x ∷ xs) (y ∷ ys) (suc i) same within =
-    let rest : take i ys ≡ take i xs = cc in
-    let more = within-kept xs ys i rest (omega (arith, within)) in omega (arith, more)
+pub last-none : (test : Run → Bool) (low : ℕ) (runs : List Run) → AreRunsFrom low runs → last_passing test runs ≡ None → (o : Option Run) × IsNext test 0 runs o
+last-none test low [] up none = (None, record { fails = tt; ahead = λ m from before. refl })
+last-none test low (x ∷ xs) up none = (
+  Some x,
+  record {
+    fails = fails-by x (last_passing test xs) (test x) none;
+    ahead = λ m from before. none-below x.first (x ∷ xs) m (omega arith, up.1, up.2) before;
+  },
+)
 
-pub front-insert : (runs : List Run) (i k : ℕ) (v : Run) → k ≤ i → i ≤ length runs → take k (insert runs i v) ≡ take k runs
-front-insert runs i zero v less within = refl
-front-insert runs zero (suc k) v less within = absurd (omega (arith, less))
-front-insert [] (suc i) (suc k) v less within = absurd (omega (arith, within))
-front-insert (x ∷ xs) (suc i) (suc k) v less within = ap (λ (ys : List Run). x ∷ ys) (front-insert xs i k v (omega (arith, less)) (omega (arith, within)))
+-- what is next behind a run is next behind it where one more is in front
+next-behind : (test : Run → Bool) (x : Run) (xs : List Run) (low l : ℕ) (o : Option Run) → x.last < l → low ≤ l → IsNext test low xs o → IsNext test l (x ∷ xs) o
+next-behind test x xs low l o past less next =
+    record {
+      fails = next.fails;
+      ahead = λ n from before. or_from (is_in_run n x) (has_number xs n) (and_right (leb x.first n) (leb n x.last) (lt-leb n x.last (omega (arith, from, past))))
+          (next.ahead n (omega (arith, from, less)) before);
+    }
 
-pub front-set : (runs : List Run) (i k : ℕ) (v : Run) → k ≤ i → take k (set runs i v) ≡ take k runs
-front-set runs i zero v less = refl
-front-set runs zero (suc k) v less = absurd (omega (arith, less))
-front-set [] (suc i) (suc k) v less = refl
-front-set (x ∷ xs) (suc i) (suc k) v less = ap (λ (ys : List Run). x ∷ ys) (front-set xs i k v (omega (arith, less)))
+last-by : (test : Run → Bool) (low : ℕ) (x : Run) (xs : List Run) (r : Run) → AreRunsFrom low (x ∷ xs)
+    → (o : Option Run) → last_passing test xs ≡ o → ((q : Run) → o ≡ Some q → (p : Option Run) × IsLast test (x.last + 2) xs q p)
+    → (t : Bool) → test x ≡ t → or_else o (cond t (Some x) None) ≡ Some r → (p : Option Run) × IsLast test low (x ∷ xs) r p
+last-by test low x xs r up (Some q) e rest t g is =
+    let same : q ≡ r = cc in
+    let later = rest q refl in
+    let last = later.1 in (
+      later.0,
+      subst (λ (y : Run). IsLast test low (x ∷ xs) y later.0) same (record {
+        from = omega (arith, last.from, up.0, up.1);
+        ascends = last.ascends;
+        passes = last.passes;
+        all = λ m from to. or_right (is_in_run m x) (has_number xs m) (last.all m from to);
+        next = next-behind test x xs (q.last + 1) (q.last + 1) later.0 (omega (arith, last.from, last.ascends)) (omega arith) last.next;
+      }),
+    )
+last-by test low x xs r up None e rest true g is =
+    let same : x ≡ r = cc in
+    let later = last-none test (x.last + 2) xs up.2 e in (
+      later.0,
+      subst (λ (y : Run). IsLast test low (x ∷ xs) y later.0) same (record {
+        from = up.0;
+        ascends = up.1;
+        passes = g;
+        all = λ m from to. or_left (is_in_run m x) (has_number xs m) (in-here m x from to);
+        next = next-behind test x xs 0 (x.last + 1) later.0 (omega arith) (omega arith) later.1;
+      }),
+    )
+last-by test low x xs r up None e rest false g is = absurd (cc)
 
-pub front-remove : (runs : List Run) (i k : ℕ) → k ≤ i → take k (remove runs i) ≡ take k runs
-front-remove runs i zero less = refl
-front-remove runs zero (suc k) less = absurd (omega (arith, less))
-front-remove [] (suc i) (suc k) less = refl
-front-remove (x ∷ xs) (suc i) (suc k) less = ap (λ (ys : List Run). x ∷ ys) (front-remove xs i k (omega (arith, less)))
-
-length-kept : (runs : List Run) (i : ℕ) (v : Run) → length (set runs i v) ≡ length runs
-length-kept [] i v = refl
-length-kept (x ∷ xs) zero v = refl
-length-kept (x ∷ xs) (suc i) v = let rest = length-kept xs i v in omega (arith, rest)
-
-pub front-cut : (runs : List Run) (i : ℕ) (v w : Run) → i < length runs → take i (insert (set runs i v) (i + 1) w) ≡ take i runs
-front-cut runs i v w within =
-    front-insert (set runs i v) (i + 1) i w (omega arith) (omega (arith, within, length-kept runs i v)) ∙ front-set runs i i v (omega arith)
-
--- what is read of a list doesn't depend on what is read past its end
-pub get-any : (counts : List ℕ) (i d e : ℕ) → i < length counts → get_or counts i d ≡ get_or counts i e
-get-any [] i d e within = absurd (omega (arith, within))
-get-any (x ∷ xs) zero d e within = refl
-get-any (x ∷ xs) (suc i) d e within = get-any xs i d e (omega (arith, within))
+pub last-some : (test : Run → Bool) (low : ℕ) (runs : List Run) (r : Run) → AreRunsFrom low runs → last_passing test runs ≡ Some r
+    → (o : Option Run) × IsLast test low runs r o
+last-some test low [] r up found = absurd (cc)
+last-some test low (x ∷ xs) r up found =
+    last-by test low x xs r up (last_passing test xs) refl (λ q is. last-some test (x.last + 2) xs q up.2 is) (test x) refl found
 
 -- ---- what one set has beyond another
-starts-above : (low : ℕ) (runs : List Run) (j : ℕ) (d : Run) → AreRunsFrom low runs → j < length runs → low ≤ (get_or runs j d).first
-starts-above low [] j d up within = absurd (omega (arith, within))
-starts-above low (r ∷ rs) zero d up within = up.0
-starts-above low (r ∷ rs) (suc j) d up within = starts-above low rs j d (lower (r.last + 2) low rs (omega (arith, up.0, up.1)) up.2) (omega (arith, within))
-
-pub starts-ascend : (low : ℕ) (runs : List Run) → AreRunsFrom low runs → IsNonDecreasingBy (λ (r : Run). r.first) runs
-starts-ascend low [] up i j d less within = absurd (omega (arith, within))
-starts-ascend low (r ∷ rs) up zero zero d less within = omega arith
-starts-ascend low (r ∷ rs) up zero (suc j) d less within =
-    let later = starts-above (r.last + 2) rs j d up.2 (omega (arith, within)) in omega (arith, later, up.1)
-starts-ascend low (r ∷ rs) up (suc i) zero d less within = absurd (omega (arith, less))
-starts-ascend low (r ∷ rs) up (suc i) (suc j) d less within = starts-ascend (r.last + 2) rs up.2 i j d (omega (arith, less)) (omega (arith, within))
-
--- The runs of a set, and where the counts of what it has beyond another leave the count at the low end.
-pub record IsLastUpTo (a b : ℕ → Bool) (runs : List Run) (low index : ℕ) : Type 0 where
-  pub apart : AreRunsFrom 0 runs
-  pub has : (n : ℕ) → a n ≡ has_number runs n
-  pub within : index ≤ length runs
-  pub few : (k : ℕ) (d : Run) → k < index → count_below (λ n. a n && not (b n)) (get_or runs k d).first ≤ count_below (λ n. a n && not (b n)) low
-  pub more : (k : ℕ) (d : Run) → index ≤ k → k < length runs
-      → count_below (λ n. a n && not (b n)) low < count_below (λ n. a n && not (b n)) (get_or runs k d).first
-
 not-in : (x y : Bool) → x ≡ false → (x && not y) ≡ false
 not-in x y none = rw none refl
 
@@ -291,73 +254,74 @@ in-both : (x y : Bool) → not y ≡ false → (x && not y) ≡ false
 in-both true y is = is
 in-both false y is = refl
 
-module _ (a b : ℕ → Bool) (runs : List Run) (low index : ℕ) (up : IsLastUpTo a b runs low index) where
+-- the numbers of the others are all in these runs
+module _ (all fewer : List Run) (each : (n : ℕ) → has_number fewer n ≡ true → has_number all n ≡ true) (up : AreRunsFrom 0 all) (low : ℕ) where
   abbrev beyond : ℕ → Bool
-  beyond n = a n && not (b n)
+  beyond n = has_number all n && not (has_number fewer n)
+
+  abbrev most : ℕ
+  most = count_below (has_number all) low - count_below (has_number fewer) low
+
+  few : (r : Run) → is_up_to all fewer most r ≡ true → count_below beyond r.first ≤ count_below beyond low
+  few r passes =
+      let here = count-beyond (has_number all) (has_number fewer) each r.first in
+      let there = count-beyond (has_number all) (has_number fewer) each low in
+      omega (arith, here, there, leb-true (count_below (has_number all) r.first - count_below (has_number fewer) r.first) most passes)
+
+  more : (r : Run) → is_up_to all fewer most r ≡ false → count_below beyond low < count_below beyond r.first
+  more r fails =
+      let here = count-beyond (has_number all) (has_number fewer) each r.first in
+      let there = count-beyond (has_number all) (has_number fewer) each low in
+      omega (arith, here, there, leb-false (count_below (has_number all) r.first - count_below (has_number fewer) r.first) most fails)
+
+  -- a run ahead of which none passes is not past the low end
+  not-past : (q : Run) → is_up_to all fewer most q ≡ false → ((m : ℕ) → low ≤ m → m < q.first → beyond m ≡ false) → zero ≡ 1
+  not-past q fails none =
+      let later = more q fails in
+      absurd (⊎_elim
+      (λ early. let fewer' = count-ascends beyond q.first low (omega (arith, early)) in omega (arith, later, fewer'))
+      (λ upto. let same = count-none beyond low q.first upto none in omega (arith, later, same))
+      (cases_lt q.first low))
 
   -- of no run the first is up to the low end
-  pub beyond-none : index ≡ 0 → (m : ℕ) → beyond m ≡ false
-  beyond-none first m = by runs refl
+  pub beyond-none : last_passing (is_up_to all fewer most) all ≡ None → (m : ℕ) → low ≤ m → beyond m ≡ false
+  beyond-none none m from = let next = last-none (is_up_to all fewer most) 0 all up none in by next.0 next.1
     where
-      by : (xs : List Run) → runs ≡ xs → beyond m ≡ false
-      by [] e = not-in (a m) (b m) (up.has m ∙ ap (λ (rs : List Run). has_number rs m) e)
-      by (r ∷ rs) e =
-          let all : AreRunsFrom 0 (r ∷ rs) = subst (AreRunsFrom 0) e up.apart in
-          let some : 0 < length runs = subst (λ (ys : List Run). 0 < length ys) (sym e) (omega arith) in
-          let here : get_or runs 0 r ≡ r = ap (λ (ys : List Run). get_or ys 0 r) e in
-          let more = subst (λ (q : Run). count_below beyond low < count_below beyond q.first) here (up.more 0 r (omega (arith, first)) some) in
-          let none : count_below beyond r.first ≡ 0 =
-          count-none beyond 0 r.first (omega arith) (λ k from below.
-          not-in (a k) (b k) (up.has k ∙ ap (λ (ys : List Run). has_number ys k) e ∙ none-below r.first (r ∷ rs) k (omega arith, all.1, all.2) below)) in
-          absurd (omega (arith, more, none))
+      by : (o : Option Run) → IsNext (is_up_to all fewer most) 0 all o → beyond m ≡ false
+      by None next = not-in (has_number all m) (has_number fewer m) (next.ahead m (omega arith) tt)
+      by (Some q) next =
+          let wrong = not-past q next.fails (λ n first below. not-in (has_number all n) (has_number fewer n) (next.ahead n (omega arith) below)) in
+          absurd (omega (arith, wrong))
 
-  module _ (i : ℕ) (r : Run) (last : index ≡ i + 1) (e : slice_get runs i ≡ Some r) where
-    pub beyond-ahead : (m : ℕ) → low ≤ m → m < r.first → beyond m ≡ false
-    beyond-ahead m from below =
-        let here : get_or runs i r ≡ r = get_or_from_slice_get runs i r r e in
-        let few = subst (λ (q : Run). count_below beyond q.first ≤ count_below beyond low) here (up.few i r (omega (arith, last))) in
-        none-between beyond low r.first few m from below
+  module _ (r : Run) (o : Option Run) (last : IsLast (is_up_to all fewer most) 0 all r o) where
+    beyond-ahead : (m : ℕ) → low ≤ m → m < r.first → beyond m ≡ false
+    beyond-ahead m from below = none-between beyond low r.first (few r last.passes) m from below
 
-    pub beyond-in : (m : ℕ) → r.first ≤ m → m ≤ r.last → not (b m) ≡ true → beyond m ≡ true
-    beyond-in m from to is = and_from (a m) (not (b m)) (up.has m ∙ has-at runs i r m e from to) is
+    beyond-in : (m : ℕ) → r.first ≤ m → m ≤ r.last → not (has_number fewer m) ≡ true → beyond m ≡ true
+    beyond-in m from to is = and_from (has_number all m) (not (has_number fewer m)) (last.all m from to) is
 
-    pub beyond-not : (m : ℕ) → not (b m) ≡ false → beyond m ≡ false
-    beyond-not m is = in-both (a m) (b m) is
-
-    -- the runs up to this one end at its end or before it
-    ends-upto : (m : ℕ) → r.last < m → (k : ℕ) (d : Run) → k < index → (get_or runs k d).last < m
-    ends-upto m past k d below =
-        let here : get_or runs i d ≡ r = get_or_from_slice_get runs i r d e in
-        let ends = subst (λ (q : Run). (get_or runs k d).last ≤ q.last) here
-        (ends-ascend 0 runs up.apart k i d (omega (arith, below, last)) (slice_get_within runs i r e)) in
-        omega (arith, ends, past)
+    beyond-not : (m : ℕ) → not (has_number fewer m) ≡ false → beyond m ≡ false
+    beyond-not m is = in-both (has_number all m) (has_number fewer m) is
 
     -- where the run has none from the low end on, none comes after it
     module _ (none : (m : ℕ) → low ≤ m → r.first ≤ m → m ≤ r.last → beyond m ≡ false) where
       ahead-or_in : (m : ℕ) → low ≤ m → m ≤ r.last → beyond m ≡ false
       ahead-or_in m from to = ⊎_elim (λ below. beyond-ahead m from below) (λ upto. none m from upto to) (cases_lt m r.first)
 
-      behind-by : (o : Option Run) → slice_get runs index ≡ o → (m : ℕ) → low ≤ m → r.last < m → beyond m ≡ false
-      behind-by None past m from behind = not-in (a m) (b m) (up.has m ∙ absent-past m runs index up.within (ends-upto m behind) past)
+      behind-by : (p : Option Run) → IsNext (is_up_to all fewer most) (r.last + 1) all p → (m : ℕ) → low ≤ m → r.last < m → beyond m ≡ false
+      behind-by None next m from behind = not-in (has_number all m) (has_number fewer m) (next.ahead m (omega (arith, behind)) tt)
       behind-by (Some q) next m from behind =
-          let there : get_or runs index q ≡ q = get_or_from_slice_get runs index q q next in
-          let more = subst (λ (p : Run). count_below beyond low < count_below beyond p.first) there
-          (up.more index q (omega arith) (slice_get_within runs index q next)) in
-          absurd (⊎_elim
-          (λ early. let fewer = count-ascends beyond q.first low (omega (arith, early)) in omega (arith, more, fewer))
-          (λ upto.
-          let same = count-none beyond low q.first upto (λ k first below.
+          let wrong = not-past q next.fails (λ k first below.
           ⊎_elim
-          (λ (past : r.last < k). not-in (a k) (b k) (up.has k ∙ absent-before k runs index up.within (ends-upto k past) q up.apart next below))
+          (λ (past : r.last < k). not-in (has_number all k) (has_number fewer k) (next.ahead k (omega (arith, past)) below))
           (λ to. ahead-or_in k first to)
           (cases_lt r.last k)) in
-          omega (arith, more, same))
-          (cases_lt q.first low))
+          absurd (omega (arith, wrong))
 
-    -- what is sought among the numbers of the run that the other set doesn't have
+    -- what is sought among the numbers of the run that the others don't have
     module _ (from to high : ℕ) (starts : (low ≤ from) × (r.first ≤ from) × ((m : ℕ) → low ≤ m → r.first ≤ m → from ≤ m))
         (ends : (to ≤ high) × (to ≤ r.last) × ((m : ℕ) → m ≤ high → m ≤ r.last → m ≤ to)) where
-      beyond-some : (found : Option ℕ) → IfSome found (λ n. IsLeastIn (λ m. not (b m)) from to n) → IfSome found (λ n. IsLeastIn beyond low high n)
+      pub beyond-some : (found : Option ℕ) → IfSome found (λ n. IsLeastIn (λ m. not (has_number fewer m)) from to n) → IfSome found (λ n. IsLeastIn beyond low high n)
       beyond-some None least = tt
       beyond-some (Some n) least = (
         omega (arith, starts.0, least.0),
@@ -369,65 +333,34 @@ module _ (a b : ℕ → Bool) (runs : List Run) (low index : ℕ) (up : IsLastUp
             (cases_lt m r.first),
       )
 
-      beyond-nothing : (found : Option ℕ) → IfNone found (NonePasses (λ m. not (b m)) from to) → IfNone found (NonePasses beyond low high)
+      pub beyond-nothing : (found : Option ℕ) → IfNone found (NonePasses (λ m. not (has_number fewer m)) from to) → IfNone found (NonePasses beyond low high)
       beyond-nothing (Some n) none = tt
       beyond-nothing None none = λ m first upto.
           let inside : (k : ℕ) → low ≤ k → r.first ≤ k → k ≤ r.last → k ≤ high → beyond k ≡ false =
           λ k above started ended bounded. beyond-not k (none k (starts.2 k above started) (ends.2 k bounded ended)) in
           ⊎_elim
           (λ (behind : r.last < m). behind-by (λ k above started ended. inside k above started ended (omega (arith, ended, behind, upto)))
-          (slice_get runs index) refl m first behind)
+          o last.next m first behind)
           (λ ended. ⊎_elim
           (λ (ahead : m < r.first). beyond-ahead m first ahead)
           (λ started. inside m first started ended upto)
           (cases_lt m r.first))
           (cases_lt r.last m)
 
-      pub beyond-found : (found : Option ℕ) → IfSome found (λ n. IsLeastIn (λ m. not (b m)) from to n) → IfNone found (NonePasses (λ m. not (b m)) from to)
-          → IfSome found (λ n. IsLeastIn beyond low high n) × IfNone found (NonePasses beyond low high)
-      beyond-found found least none = (beyond-some found least, beyond-nothing found none)
-
--- the count of what one set has beyond another ascends with the runs
-pub beyond-ascends : (a b : ℕ → Bool) → ((n : ℕ) → b n ≡ true → a n ≡ true) → (runs : List Run) → AreRunsFrom 0 runs
-    → IsNonDecreasingBy (λ (r : Run). count_below a r.first - count_below b r.first) runs
-beyond-ascends a b each runs up i j d less within =
-    let first = count-beyond a b each (get_or runs i d).first in
-    let last = count-beyond a b each (get_or runs j d).first in
-    let starts = starts-ascend 0 runs up i j d less within in
-    let more = count-ascends (λ n. a n && not (b n)) (get_or runs i d).first (get_or runs j d).first starts in
-    omega (arith, first, last, more)
-
--- what `partition_point` finds by these counts
-module _ (a b : ℕ → Bool) (each : (n : ℕ) → b n ≡ true → a n ≡ true) where
-  pub beyond-point : (runs shown : List Run) (most i : ℕ) → shown ≡ runs
-      → IsPartitionPoint (λ (r : Run). leb (count_below a r.first - count_below b r.first) most ≡ true)
-      (λ (r : Run). leb (count_below a r.first - count_below b r.first) most ≡ false) shown i
-      → IsPartitionPoint (λ (r : Run). count_below (λ n. a n && not (b n)) r.first ≤ most)
-      (λ (r : Run). most < count_below (λ n. a n && not (b n)) r.first) runs i
-  beyond-point runs shown most i same point =
-      subst (λ (rs : List Run). IsPartitionPoint (λ (r : Run). count_below (λ n. a n && not (b n)) r.first ≤ most)
-      (λ (r : Run). most < count_below (λ n. a n && not (b n)) r.first) rs i) same (
-        λ k d from below.
-            let is = count-beyond a b each (get_or shown k d).first in
-            let few = leb-true (count_below a (get_or shown k d).first - count_below b (get_or shown k d).first) most (point.0 k d from below) in
-            omega (arith, is, few),
-        λ k d from below.
-            let is = count-beyond a b each (get_or shown k d).first in
-            let more = leb-false (count_below a (get_or shown k d).first - count_below b (get_or shown k d).first) most (point.1 k d from below) in
-            omega (arith, is, more),
-      )
-
-  pub last-up : (runs : List Run) (low most index : ℕ) → AreRunsFrom 0 runs → ((n : ℕ) → a n ≡ has_number runs n)
-      → most ≡ count_below a low - count_below b low → index ≤ length runs
-      → IsPartitionPoint (λ (r : Run). count_below (λ n. a n && not (b n)) r.first ≤ most)
-      (λ (r : Run). most < count_below (λ n. a n && not (b n)) r.first) runs index
-      → IsLastUpTo a b runs low index
-  last-up runs low most index apart has is within point =
-      let same = is ∙ count-beyond a b each low in
-      record {
-        apart = apart;
-        has = has;
-        within = within;
-        few = λ k d below. let few = point.0 k d (omega arith) below in omega (arith, same, few);
-        more = λ k d from below. let more = point.1 k d from below in omega (arith, same, more);
-      }
+-- after a run of which more are ahead, more are ahead of each
+pub beyond-split : (all fewer : List Run) → ((n : ℕ) → has_number fewer n ≡ true → has_number all n ≡ true) → (most low : ℕ) (runs : List Run)
+    → AreRunsFrom low runs → AreSplitBy (is_up_to all fewer most) runs
+beyond-split all fewer each most low [] up = tt
+beyond-split all fewer each most low (r ∷ rs) up =
+    (λ fails. later fails (r.last + 2) rs (omega (arith, up.1)) up.2, beyond-split all fewer each most (r.last + 2) rs up.2)
+  where
+    later : is_up_to all fewer most r ≡ false → (l : ℕ) (qs : List Run) → r.first ≤ l → AreRunsFrom l qs → list_any (is_up_to all fewer most) qs ≡ false
+    later fails l [] less ups = refl
+    later fails l (q ∷ qs) less ups =
+        let here = count-beyond (has_number all) (has_number fewer) each r.first in
+        let there = count-beyond (has_number all) (has_number fewer) each q.first in
+        let rising = count-ascends (λ n. has_number all n && not (has_number fewer n)) r.first q.first (omega (arith, less, ups.0)) in
+        let past = leb-false (count_below (has_number all) r.first - count_below (has_number fewer) r.first) most fails in
+        or_from (is_up_to all fewer most q) (list_any (is_up_to all fewer most) qs)
+        (lt-leb (count_below (has_number all) q.first - count_below (has_number fewer) q.first) most (omega (arith, here, there, rising, past)))
+        (later fails (q.last + 2) qs (omega (arith, less, ups.0, ups.1)) ups.2)

@@ -1,281 +1,223 @@
 -- Runs with a number more, and with one less.
-use Rattle.std.proofs.Common.{◌≡◌, ◌≤◌, ◌<◌, ◌+◌, ◌-◌, ℕ, zero, suc, Bool, true, false, cond, ◌&&◌, ◌||◌, eqb, leb}
-use Rattle.std.proofs.Common.{List, [], ◌∷◌, ◌++◌, length, get_or, take, drop, Some, None, refl, sym, ap, subst, arith}
+use Rattle.std.proofs.Common.{◌≡◌, ◌≤◌, ◌<◌, ◌+◌, ◌-◌, ℕ, Bool, true, false, not, ◌&&◌, ◌||◌, eqb, leb, ltb, List, refl, sym, ap, ◌∙◌, arith, ⊎_elim}
+use Rattle.std.proofs.lemmas.Bool.{cases_lt, true≢false, eqb-true}
 use Rattle.std.proofs.lemmas.Bool.Decides.{nat_tests}
-use Rattle.std.proofs.lemmas.Bool.{or_from, or_left, and_from, and_right, lt-leb, le-leb}
-use Rattle.std.proofs.lemmas.List.{set_split}
-use Rattle.std.proofs.lemmas.Option.{slice_get_within}
-use Rattle.std.proofs.Math.ListN.{set}
-use Rattle.std.specs.List.{slice_get, insert, remove}
-use Rattle.number_sets.specs.declared.runs.Run.{Run}
-use Rattle.number_sets.specs.RunLists.{is_in_run, has_number, AreRunsFrom, IsFound, IsSetTo}
-use Rattle.number_sets.proofs.RunLaws.{lower, none-below, set-behind, set-same, drop-at, drop-past, apart-at}
-use Rattle.number_sets.proofs.RunLaws.{has-at, absent-past, absent-before, absent-after, ends-before, ends-from}
+use Rattle.number_sets.specs.declared.run.Run.{Run}
+use Rattle.number_sets.specs.RunLists.{is_in_run, has_number, AreRunsFrom, AreBefore, AreBehind, IsClear, count_numbers, insert_run, size_of}
+use Rattle.number_sets.proofs.RunLaws.{has-insert, count-insert, insert-from, insert-up, IsApart, in-here, within, or-second}
 
-abbrev run : ℕ → ℕ → Run
-run first last = record { first = first; last = last }
+none-before : (f m : ℕ) (h : Bool) → h ≡ ((leb f m && ltb m f) || h)
+none-before f m h = grind (arith, nat_tests)
 
-alone-has : (n m : ℕ) (h : Bool) → ((leb n m && leb m n) || h) ≡ cond (eqb m n) true h
-alone-has n m h = grind (arith, nat_tests)
+none-behind : (l m : ℕ) (h : Bool) → h ≡ ((ltb l m && leb m l) || h)
+none-behind l m h = grind (arith, nat_tests)
 
-first-has : (n f l m : ℕ) (h : Bool) → f ≡ n + 1 → f ≤ l → ((leb n m && leb m l) || h) ≡ cond (eqb m n) true ((leb f m && leb m l) || h)
-first-has n f l m h e within = grind (arith, nat_tests)
+all-before : (f l n m : ℕ) (h : Bool) → l + 1 ≡ n → ((leb f m && leb m l) || h) ≡ ((leb f m && ltb m n) || h)
+all-before f l n m h e = grind (arith, nat_tests)
 
-last-has : (n f l m : ℕ) (h : Bool) → n ≡ l + 1 → f ≤ l → ((leb f m && leb m n) || h) ≡ cond (eqb m n) true ((leb f m && leb m l) || h)
-last-has n f l m h e within = grind (arith, nat_tests)
+all-behind : (f l n m : ℕ) (h : Bool) → f ≡ n + 1 → ((leb f m && leb m l) || h) ≡ ((ltb n m && leb m l) || h)
+all-behind f l n m h e = grind (arith, nat_tests)
 
-join-has : (n f l g k m : ℕ) (h : Bool) → n ≡ l + 1 → g ≡ n + 1 → f ≤ l → g ≤ k
-    → ((leb f m && leb m k) || h) ≡ cond (eqb m n) true ((leb f m && leb m l) || ((leb g m && leb m k) || h))
-join-has n f l g k m h e s within later = grind (arith, nat_tests)
+-- a number that a run contains is in the runs with it
+held : (r : Run) (rs : List Run) (m : ℕ) → r.first ≤ m → m ≤ r.last → has_number (insert_run r rs) m ≡ true
+held r rs m from to = has-insert r rs m ∙ ap (λ (b : Bool). b || has_number rs m) (in-here m r from to)
 
-same-has : (n f l m : ℕ) (h : Bool) → f ≤ n → n ≤ l → ((leb f m && leb m l) || h) ≡ cond (eqb m n) true ((leb f m && leb m l) || h)
-same-has n f l m h from to = grind (arith, nat_tests)
+-- where a number isn't in the runs, but a run of them has the one before it, that run ends there
+ends-before : (n m : ℕ) (r : Run) (rs : List Run) → r.first ≤ m → m ≤ r.last → n ≤ m + 1 → m ≤ n → has_number (insert_run r rs) n ≡ false → (r.last + 1 ≡ n) × (r.first ≤ n)
+ends-before n m r rs from to next upto none =
+    ⊎_elim
+    (λ (past : r.last < n). (omega (arith, past, to, next), omega (arith, from, upto)))
+    (λ more. absurd (true≢false (sym (held r rs n (omega (arith, from, upto)) more) ∙ none)))
+    (cases_lt r.last n)
 
-single-out : (n m : ℕ) (h : Bool) → (m ≡ n → h ≡ false) → h ≡ cond (eqb m n) false ((leb n m && leb m n) || h)
-single-out n m h none = grind (arith, nat_tests)
+begins-behind : (n m : ℕ) (r : Run) (rs : List Run) → r.first ≤ m → m ≤ r.last → m ≤ n + 1 → n ≤ m → has_number (insert_run r rs) n ≡ false → (r.first ≡ n + 1) × (n ≤ r.last)
+begins-behind n m r rs from to next upto none =
+    ⊎_elim
+    (λ (past : n < r.first). (omega (arith, past, from, next), omega (arith, to, upto)))
+    (λ more. absurd (true≢false (sym (held r rs n more (omega (arith, to, upto))) ∙ none)))
+    (cases_lt n r.first)
 
-first-out : (n l m : ℕ) (h : Bool) → n < l → (m ≡ n → h ≡ false) → ((leb (n + 1) m && leb m l) || h) ≡ cond (eqb m n) false ((leb n m && leb m l) || h)
-first-out n l m h less none = grind (arith, nat_tests)
-
-last-out : (n f m : ℕ) (h : Bool) → f < n → (m ≡ n → h ≡ false) → ((leb f m && leb m (n - 1)) || h) ≡ cond (eqb m n) false ((leb f m && leb m n) || h)
-last-out n f m h less none = grind (arith, nat_tests)
-
-cut-out : (n f l m : ℕ) (h : Bool) → f < n → n < l → (m ≡ n → h ≡ false)
-    → ((leb f m && leb m (n - 1)) || ((leb (n + 1) m && leb m l) || h)) ≡ cond (eqb m n) false ((leb f m && leb m l) || h)
-cut-out n f l m h less more none = grind (arith, nat_tests)
-
--- edits of a list, each in front of what stands after the index
-joined : (runs : List Run) (i : ℕ) (v : Run) → i < length runs → remove (set runs i v) (i + 1) ≡ take i runs ++ v ∷ drop (suc (suc i)) runs
-joined [] i v within = absurd (omega (arith, within))
-joined (x ∷ xs) zero v within = refl
-joined (x ∷ xs) (suc i) v within =
-    let next : suc i + 1 ≡ suc (i + 1) = omega arith in rw next (ap (λ (rs : List Run). x ∷ rs) (joined xs i v (omega (arith, within))))
-
-halved : (runs : List Run) (i : ℕ) (v w : Run) → i < length runs → insert (set runs i v) (i + 1) w ≡ take i runs ++ v ∷ w ∷ drop (suc i) runs
-halved [] i v w within = absurd (omega (arith, within))
-halved (x ∷ xs) zero v w within = refl
-halved (x ∷ xs) (suc i) v w within =
-    let next : suc i + 1 ≡ suc (i + 1) = omega arith in rw next (ap (λ (rs : List Run). x ∷ rs) (halved xs i v w (omega (arith, within))))
-
--- one run more
-alone : (n low : ℕ) (rest : List Run) → low ≤ n → AreRunsFrom (n + 2) rest → IsSetTo low n true rest (run n n ∷ rest)
-alone n low rest from up =
-    let none = none-below (n + 2) rest n up (omega arith) in
+before-of : (n : ℕ) (r : Run) (rs : List Run) → r.last + 1 ≡ n → AreRunsFrom 0 (insert_run r rs) → AreBefore r.first n (insert_run r rs) rs
+before-of n r rs e up =
+    let is = insert-from 0 r rs up in
     record {
-      has = λ m. alone-has n m (has_number rest m);
-      apart = (from, omega arith, up);
-      counted = rw none (omega arith);
+      apart = up;
+      others_apart = is.up;
+      upto = omega (arith, e, is.ascends);
+      has = λ m. has-insert r rs m ∙ all-before r.first r.last n m (has_number rs m) e;
+      clear = λ m early late. is.apart m early (omega (arith, late, e));
+      counted = omega (arith, count-insert r rs, e, is.ascends);
     }
 
--- a number in front of the first run
-grown-first : (n low : ℕ) (r : Run) (rs : List Run) → low ≤ n → r.first ≡ n + 1 → AreRunsFrom low (r ∷ rs) → IsSetTo low n true (r ∷ rs) (run n r.last ∷ rs)
-grown-first n low r rs from e up =
-    let none : has_number (r ∷ rs) n ≡ false = none-below r.first (r ∷ rs) n (omega arith, up.1, up.2) (omega (arith, e)) in
+behind-of : (n : ℕ) (r : Run) (rs : List Run) → r.first ≡ n + 1 → AreRunsFrom 0 (insert_run r rs) → AreBehind n r.last (insert_run r rs) rs
+behind-of n r rs e up =
+    let is = insert-from 0 r rs up in
     record {
-      has = λ m. first-has n r.first r.last m (has_number rs m) e up.1;
-      apart = (from, omega (arith, e, up.1), up.2);
-      counted = rw none (omega (arith, e, up.1));
+      apart = up;
+      others_apart = is.up;
+      from = omega (arith, e, is.ascends);
+      has = λ m. has-insert r rs m ∙ all-behind r.first r.last n m (has_number rs m) e;
+      clear = λ m early late. is.apart m (omega (arith, early, e)) late;
+      counted = omega (arith, count-insert r rs, e, is.ascends);
     }
 
-none-after : (n low : ℕ) (r : Run) (rs : List Run) → n ≡ r.last + 1 → AreRunsFrom low (r ∷ rs) → has_number (r ∷ rs) n ≡ false
-none-after n low r rs e up =
-    or_from (is_in_run n r) (has_number rs n) (and_right (leb r.first n) (leb n r.last) (lt-leb n r.last (omega (arith, e))))
-    (none-below (r.last + 2) rs n up.2 (omega (arith, e)))
+module _ (n : ℕ) (old new : List Run) (up : AreRunsFrom 0 old) where
+  module _ (none : has_number old n ≡ false) where
+    -- the run with the number before was taken out
+    pub taken-before : (m : ℕ) (r : Run) → m ≡ n - 1 → old ≡ insert_run r new → is_in_run m r ≡ true → AreBefore r.first n old new
+    taken-before m r at e here =
+        let in_run = within m r here in
+        let ends = ends-before n m r new in_run.0 in_run.1 (omega (arith, at)) (omega (arith, at)) (rw e at none) in
+        rw e (before-of n r new ends.0 (rw e at up))
 
--- a number after the first run, which doesn't touch the next
-grown-last : (n low : ℕ) (r : Run) (rs : List Run) → n ≡ r.last + 1 → AreRunsFrom low (r ∷ rs) → AreRunsFrom (n + 2) rs
-    → IsSetTo low n true (r ∷ rs) (run r.first n ∷ rs)
-grown-last n low r rs e up behind =
-    let none = none-after n low r rs e up in
-    record {
-      has = λ m. last-has n r.first r.last m (has_number rs m) e up.1;
-      apart = (up.0, omega (arith, e, up.1), behind);
-      counted = rw none (omega (arith, e, up.1));
-    }
+    pub taken-behind : (m : ℕ) (r : Run) → m ≤ n + 1 → n ≤ m → old ≡ insert_run r new → is_in_run m r ≡ true → AreBehind n r.last old new
+    taken-behind m r next upto e here =
+        let in_run = within m r here in
+        let begins = begins-behind n m r new in_run.0 in_run.1 next upto (rw e at none) in
+        rw e (behind-of n r new begins.0 (rw e at up))
 
--- a number between two runs
-grown-join : (n low : ℕ) (r q : Run) (rs : List Run) → n ≡ r.last + 1 → q.first ≡ n + 1 → AreRunsFrom low (r ∷ q ∷ rs)
-    → IsSetTo low n true (r ∷ q ∷ rs) (run r.first q.last ∷ rs)
-grown-join n low r q rs e s up =
-    let none = none-after n low r (q ∷ rs) e up in
-    record {
-      has = λ m. join-has n r.first r.last q.first q.last m (has_number rs m) e s up.1 up.2.1;
-      apart = (up.0, omega (arith, e, s, up.1, up.2.1), up.2.2);
-      counted = rw none (omega (arith, e, s, up.1, up.2.1));
-    }
+    -- there was none
+    pub alone-before : new ≡ old → has_number old (n - 1) ≡ false → AreBefore n n old new
+    alone-before same before =
+        record {
+          apart = up;
+          others_apart = rw same up;
+          upto = omega arith;
+          has = λ m. rw same (none-before n m (has_number old m));
+          clear = λ m early late. let at : m ≡ n - 1 = omega (arith, early, late) in rw (same, at) before;
+          counted = rw same (omega arith);
+        }
 
-none-later : (n low : ℕ) (r : Run) (rs : List Run) → n ≤ r.last → AreRunsFrom low (r ∷ rs) → (m : ℕ) → m ≡ n → has_number rs m ≡ false
-none-later n low r rs to up m e = none-below (r.last + 2) rs m up.2 (omega (arith, e, to))
+    pub alone-behind : new ≡ old → has_number old (n + 1) ≡ false → AreBehind n n old new
+    alone-behind same behind =
+        record {
+          apart = up;
+          others_apart = rw same up;
+          from = omega arith;
+          has = λ m. rw same (none-behind n m (has_number old m));
+          clear = λ m early late. let at : m ≡ n + 1 = omega (arith, early, late) in rw (same, at) behind;
+          counted = rw same (omega arith);
+        }
 
-here : (n : ℕ) (r : Run) (rs : List Run) → r.first ≤ n → n ≤ r.last → has_number (r ∷ rs) n ≡ true
-here n r rs from to = or_left (is_in_run n r) (has_number rs n) (and_from (leb r.first n) (leb n r.last) (le-leb r.first n from) (le-leb n r.last to))
+-- a run of the numbers before or behind is put in
+module _ (n : ℕ) (old : List Run) (up : AreRunsFrom 0 old) where
+  pub apart-before : (f : ℕ) → f < n → IsClear old f n → IsApart 0 (record { first = f; last = n - 1 }) old
+  apart-before f less clear =
+      record { up = up; from = omega arith; ascends = omega (arith, less); apart = λ m early late. clear m early (omega (arith, late, less)) }
 
--- the only number of the first run goes
-cut-single : (n low : ℕ) (r : Run) (rs : List Run) → r.first ≡ n → r.last ≡ n → AreRunsFrom low (r ∷ rs) → IsSetTo low n false (r ∷ rs) rs
-cut-single n low r rs e s up =
-    let is = here n r rs (omega (arith, e)) (omega (arith, s)) in
-    record {
-      has = λ m. rw (e, s) (single-out n m (has_number rs m) (none-later n low r rs (omega (arith, s)) up m));
-      apart = lower (r.last + 2) low rs (omega (arith, up.0, up.1)) up.2;
-      counted = rw is (omega (arith, e, s));
-    }
+  pub apart-behind : (l : ℕ) → n < l → IsClear old (n + 1) (l + 1) → IsApart 0 (record { first = n + 1; last = l }) old
+  apart-behind l less clear = record { up = up; from = omega arith; ascends = omega (arith, less); apart = λ m early late. clear m early late }
 
--- its first number
-cut-first : (n low : ℕ) (r : Run) (rs : List Run) → r.first ≡ n → n < r.last → AreRunsFrom low (r ∷ rs) → IsSetTo low n false (r ∷ rs) (run (n + 1) r.last ∷ rs)
-cut-first n low r rs e less up =
-    let is = here n r rs (omega (arith, e)) (omega (arith, less)) in
-    record {
-      has = λ m. rw e (first-out n r.last m (has_number rs m) less (none-later n low r rs (omega (arith, less)) up m));
-      apart = (omega (arith, e, up.0), omega (arith, less), up.2);
-      counted = rw is (omega (arith, e, less));
-    }
+  pub put-before : (f : ℕ) (new : List Run) → f < n → IsClear old f n → new ≡ insert_run (record { first = f; last = n - 1 }) old → AreBefore f n new old
+  put-before f new less clear e =
+      rw e (before-of n (record { first = f; last = n - 1 }) old (omega (arith, less)) (insert-up 0 (record { first = f; last = n - 1 }) old (apart-before f less clear)))
 
--- its last number
-cut-last : (n low : ℕ) (r : Run) (rs : List Run) → r.last ≡ n → r.first < n → AreRunsFrom low (r ∷ rs) → IsSetTo low n false (r ∷ rs) (run r.first (n - 1) ∷ rs)
-cut-last n low r rs e less up =
-    let is = here n r rs (omega (arith, less)) (omega (arith, e)) in
-    record {
-      has = λ m. rw e (last-out n r.first m (has_number rs m) less (none-later n low r rs (omega (arith, e)) up m));
-      apart = (up.0, omega (arith, less), lower (r.last + 2) (n - 1 + 2) rs (omega (arith, e, less)) up.2);
-      counted = rw is (omega (arith, e, less));
-    }
+  pub put-behind : (l : ℕ) (new : List Run) → n < l → IsClear old (n + 1) (l + 1) → new ≡ insert_run (record { first = n + 1; last = l }) old → AreBehind n l new old
+  put-behind l new less clear e =
+      rw e (behind-of n (record { first = n + 1; last = l }) old refl (insert-up 0 (record { first = n + 1; last = l }) old (apart-behind l less clear)))
 
--- one between its first and its last
-cut-middle : (n low : ℕ) (r : Run) (rs : List Run) → r.first < n → n < r.last → AreRunsFrom low (r ∷ rs)
-    → IsSetTo low n false (r ∷ rs) (run r.first (n - 1) ∷ run (n + 1) r.last ∷ rs)
-cut-middle n low r rs from to up =
-    let is = here n r rs (omega (arith, from)) (omega (arith, to)) in
-    record {
-      has = λ m. cut-out n r.first r.last m (has_number rs m) from to (none-later n low r rs (omega (arith, to)) up m);
-      apart = (up.0, omega (arith, from), (omega (arith, from), omega (arith, to), up.2));
-      counted = rw is (omega (arith, from, to));
-    }
+  pub none-put-before : (f : ℕ) (new : List Run) → f ≤ n → n ≤ f → IsClear old f n → new ≡ old → AreBefore f n new old
+  none-put-before f new less more clear e =
+      let same : f ≡ n = omega (arith, less, more) in
+      record {
+        apart = rw e up;
+        others_apart = up;
+        upto = less;
+        has = λ m. rw (e, same) (none-before n m (has_number old m));
+        clear = λ m early late. clear m early (omega (arith, late));
+        counted = rw (e, same) (omega arith);
+      }
 
--- an edit of what stands from the index on
-module _ (n bound : ℕ) (flag : Bool) (runs : List Run) (i : ℕ) (near : bound ≤ n + 1) (within : i ≤ length runs) (up : AreRunsFrom 0 runs)
-    (before : (k : ℕ) (d : Run) → k < i → (get_or runs k d).last + 2 ≤ bound) where
-  edit-at : (r : Run) (new : List Run) → slice_get runs i ≡ Some r
-      → ((l : ℕ) → l ≤ bound → AreRunsFrom l (r ∷ drop (suc i) runs) → IsSetTo l n flag (r ∷ drop (suc i) runs) new)
-      → IsSetTo 0 n flag runs (take i runs ++ new)
-  edit-at r new e each =
-      set-behind n bound flag runs new i 0 near (omega arith) within before up
-      (subst (λ (rest : List Run). (l : ℕ) → l ≤ bound → AreRunsFrom l rest → IsSetTo l n flag rest new) (sym (drop-at runs i r e)) each)
+  pub none-put-behind : (l : ℕ) (new : List Run) → n ≤ l → l ≤ n → IsClear old (n + 1) (l + 1) → new ≡ old → AreBehind n l new old
+  none-put-behind l new less more clear e =
+      let same : l ≡ n = omega (arith, less, more) in
+      record {
+        apart = rw e up;
+        others_apart = up;
+        from = less;
+        has = λ m. rw (e, same) (none-behind n m (has_number old m));
+        clear = λ m early late. clear m (omega (arith, early)) late;
+        counted = rw (e, same) (omega arith);
+      }
 
-module _ (n : ℕ) (runs : List Run) (i : ℕ) (found : IsFound (n - 1) runs i) where
-  before-put : (k : ℕ) (d : Run) → k < i → (get_or runs k d).last + 2 ≤ n
-  before-put k d below = let ends = found.point.0 k d (omega arith) below in omega (arith, ends)
+-- ---- the number comes
+one-more : (f n l m : ℕ) (h : Bool) → f ≤ n → n ≤ l
+    → ((leb f m && leb m l) || h) ≡ (eqb m n || ((leb f m && ltb m n) || ((ltb n m && leb m l) || h)))
+one-more f n l m h from to = grind (arith, nat_tests)
 
-  less-put : (k : ℕ) (d : Run) → k < i → (get_or runs k d).last < n
-  less-put k d below = let ends = before-put k d below in omega (arith, ends)
+module _ (n f l : ℕ) (old mid new : List Run) (none : has_number old n ≡ false) (before : AreBefore f n old mid) (behind : AreBehind n l mid new) where
+  pub joined-apart : IsApart 0 (record { first = f; last = l }) new
+  joined-apart =
+      record {
+        up = behind.others_apart;
+        from = omega arith;
+        ascends = omega (arith, before.upto, behind.from);
+        apart = λ m early late.
+            ⊎_elim
+            (λ (less : m < n). or-second (ltb n m && leb m l) (has_number new m) (sym (behind.has m) ∙ before.clear m early less))
+            (λ upto. ⊎_elim
+            (λ (more : n < m). behind.clear m more late)
+            (λ least.
+            let same : m ≡ n = omega (arith, upto, least) in
+            rw same (or-second (ltb n n && leb n l) (has_number new n) (sym (behind.has n) ∙ or-second (leb f n && ltb n n) (has_number mid n) (sym (before.has n) ∙ none))))
+            (cases_lt n m))
+            (cases_lt m n);
+      }
 
-  put-at : (r : Run) (new : List Run) → slice_get runs i ≡ Some r
-      → ((l : ℕ) → l ≤ n → AreRunsFrom l (r ∷ drop (suc i) runs) → IsSetTo l n true (r ∷ drop (suc i) runs) new) → IsSetTo 0 n true runs (take i runs ++ new)
-  put-at = edit-at n n true runs i (omega arith) found.within found.apart before-put
+  pub joined-has : (m : ℕ) → has_number (insert_run (record { first = f; last = l }) new) m ≡ (eqb m n || has_number old m)
+  joined-has m =
+      has-insert (record { first = f; last = l }) new m ∙ one-more f n l m (has_number new m) before.upto behind.from
+      ∙ ap (λ (b : Bool). eqb m n || b) (ap (λ (b : Bool). (leb f m && ltb m n) || b) (sym (behind.has m)) ∙ sym (before.has m))
 
-  pub put-end : slice_get runs i ≡ None → IsSetTo 0 n true runs (insert runs i (run n n))
-  put-end e =
-      set-behind n n true runs (run n n ∷ drop i runs) i 0 (omega arith) (omega arith) found.within before-put found.apart
-      (λ l less behind. alone n l (drop i runs) less (subst (AreRunsFrom (n + 2)) (sym (drop-past runs i e)) tt))
+  pub joined-count : count_numbers (insert_run (record { first = f; last = l }) new) ≡ count_numbers old + 1
+  joined-count = omega (arith, count-insert (record { first = f; last = l }) new, before.counted, behind.counted, before.upto, behind.from)
 
-  pub put-end-absent : slice_get runs i ≡ None → has_number runs n ≡ false
-  put-end-absent e = absent-past n runs i found.within less-put e
+-- ---- the number goes
+pub none-goes : (n : ℕ) (old new : List Run) → new ≡ old → has_number old n ≡ false → (m : ℕ) → has_number new m ≡ (not (eqb m n) && has_number old m)
+none-goes n old new same none m = ap (λ (rs : List Run). has_number rs m) same ∙ by (eqb m n) (λ e. ap (has_number old) (eqb-true m n e) ∙ none)
+  where
+    by : (t : Bool) → (t ≡ true → has_number old m ≡ false) → has_number old m ≡ (not t && has_number old m)
+    by true out = out refl
+    by false out = refl
 
-  module _ (r : Run) (e : slice_get runs i ≡ Some r) where
-    pub put-new : 1 < r.first - n → IsSetTo 0 n true runs (insert runs i (run n n))
-    put-new far =
-        subst (λ (rest : List Run). IsSetTo 0 n true runs (take i runs ++ run n n ∷ rest)) (sym (drop-at runs i r e))
-        (put-at r (run n n ∷ r ∷ drop (suc i) runs) e
-        (λ l less all. alone n l (r ∷ drop (suc i) runs) less (omega (arith, far), all.1, all.2)))
+one-less : (f n l m : ℕ) (h : Bool) → f ≤ n → n ≤ l → (m ≡ n → h ≡ false)
+    → ((ltb n m && leb m l) || ((leb f m && ltb m n) || h)) ≡ (not (eqb m n) && ((leb f m && leb m l) || h))
+one-less f n l m h from to none = grind (arith, nat_tests)
 
-    pub put-first : r.first - n ≤ 1 → n < r.first → IsSetTo 0 n true runs (set runs i (run n r.last))
-    put-first near less =
-        subst (IsSetTo 0 n true runs) (sym (set_split runs i (run n r.last) (slice_get_within runs i r e)))
-        (put-at r (run n r.last ∷ drop (suc i) runs) e
-        (λ l from all. grown-first n l r (drop (suc i) runs) from (omega (arith, near, less)) all))
+module _ (n : ℕ) (r : Run) (old rest : List Run) (up : AreRunsFrom 0 old) (e : old ≡ insert_run r rest) (here : is_in_run n r ≡ true) where
+  pub cut-within : (r.first ≤ n) × (n ≤ r.last)
+  cut-within = within n r here
 
-    pub put-front-absent : n < r.first → has_number runs n ≡ false
-    put-front-absent less = absent-before n runs i found.within less-put r found.apart e less
+  is-apart : IsApart 0 r rest
+  is-apart = insert-from 0 r rest (rw e at up)
 
-    pub put-same : r.first ≤ n → n ≤ r.last → IsSetTo 0 n true runs runs
-    put-same from to = set-same n true runs found.apart (has-at runs i r n e from to)
+  pub cut-up : AreRunsFrom 0 rest
+  cut-up = is-apart.up
 
-    pub put-last-ends : r.last < n → r.last + 1 ≡ n
-    put-last-ends less = let ends = ends-from (n - 1) runs i r found.point e in omega (arith, ends, less)
+  pub cut-count : count_numbers old ≡ size_of r + count_numbers rest
+  cut-count = rw e (count-insert r rest)
 
-    pub put-last-absent : r.last < n → has_number runs n ≡ false
-    put-last-absent less = let ends = put-last-ends less in absent-after n runs i found.within less-put r found.apart e (omega (arith, ends))
+  pub cut-clear : IsClear rest r.first n
+  cut-clear m early late = is-apart.apart m early (omega (arith, late, cut-within.1))
 
-    module _ (ends : r.last + 1 ≡ n) where
-      behind : AreRunsFrom (n + 1) (drop (suc i) runs)
-      behind = let all = apart-at runs i r found.apart e in lower (r.last + 2) (n + 1) (drop (suc i) runs) (omega (arith, ends)) all.2
+  module _ (mid : List Run) (before : AreBefore r.first n mid rest) where
+    pub cut-clear-behind : IsClear mid (n + 1) (r.last + 1)
+    cut-clear-behind m early late =
+        before.has m ∙ by (ltb m n) (leb r.first m) (has_number rest m) (le-ltb' m n (omega (arith, early)))
+        (is-apart.apart m (omega (arith, early, cut-within.0)) late)
+      where
+        le-ltb' : (a b : ℕ) → b ≤ a → ltb a b ≡ false
+        le-ltb' a b less = grind (arith, nat_tests)
 
-      last-at : AreRunsFrom (n + 2) (drop (suc i) runs) → IsSetTo 0 n true runs (set runs i (run r.first n))
-      last-at far =
-          subst (IsSetTo 0 n true runs) (sym (set_split runs i (run r.first n) (slice_get_within runs i r e)))
-          (put-at r (run r.first n ∷ drop (suc i) runs) e
-          (λ l from all. grown-last n l r (drop (suc i) runs) (omega (arith, ends)) all far))
+        by : (x y z : Bool) → x ≡ false → z ≡ false → ((y && x) || z) ≡ false
+        by false true false first none = refl
+        by false false false first none = refl
+        by true y z first none = absurd (cc)
+        by x y true first none = absurd (cc)
 
-      -- no run stands after, or one that doesn't touch the number
-      pub put-last-end : slice_get runs (i + 1) ≡ None → IsSetTo 0 n true runs (set runs i (run r.first n))
-      put-last-end none =
-          let one : i + 1 ≡ suc i = omega arith in
-          last-at (subst (AreRunsFrom (n + 2)) (sym (drop-past runs (suc i) (rw one at none))) tt)
-
-      pub put-last : (q : Run) → slice_get runs (i + 1) ≡ Some q → 1 < q.first - n → IsSetTo 0 n true runs (set runs i (run r.first n))
-      put-last q next far =
-          let one : i + 1 ≡ suc i = omega arith in
-          let all = apart-at runs (suc i) q found.apart (rw one at next) in
-          last-at (subst (AreRunsFrom (n + 2)) (sym (drop-at runs (suc i) q (rw one at next))) (omega (arith, far), all.1, all.2))
-
-      pub put-join : (q : Run) → slice_get runs (i + 1) ≡ Some q → q.first - n ≤ 1 → IsSetTo 0 n true runs (remove (set runs i (run r.first q.last)) (i + 1))
-      put-join q next near =
-          let one : i + 1 ≡ suc i = omega arith in
-          let at_next : slice_get runs (suc i) ≡ Some q = rw one at next in
-          let split : drop (suc i) runs ≡ q ∷ drop (suc (suc i)) runs = drop-at runs (suc i) q at_next in
-          let from : AreRunsFrom (n + 1) (q ∷ drop (suc (suc i)) runs) = subst (AreRunsFrom (n + 1)) split behind in
-          subst (IsSetTo 0 n true runs) (sym (joined runs i (run r.first q.last) (slice_get_within runs i r e)))
-          (put-at r (run r.first q.last ∷ drop (suc (suc i)) runs) e
-          (λ l less.
-          subst (λ (rest : List Run). AreRunsFrom l (r ∷ rest) → IsSetTo l n true (r ∷ rest) (run r.first q.last ∷ drop (suc (suc i)) runs)) (sym split)
-          (λ all. grown-join n l r q (drop (suc (suc i)) runs) (omega (arith, ends)) (omega (arith, near, from.0)) all)))
-
-module _ (n : ℕ) (runs : List Run) (i : ℕ) (found : IsFound n runs i) where
-  before-cut : (k : ℕ) (d : Run) → k < i → (get_or runs k d).last + 2 ≤ n + 1
-  before-cut k d below = let ends = found.point.0 k d (omega arith) below in omega (arith, ends)
-
-  pub past-absent : slice_get runs i ≡ None → has_number runs n ≡ false
-  past-absent e = absent-past n runs i found.within (ends-before n runs i found.point n (omega arith)) e
-
-  module _ (r : Run) (e : slice_get runs i ≡ Some r) where
-    pub front-absent : n < r.first → has_number runs n ≡ false
-    front-absent less = absent-before n runs i found.within (ends-before n runs i found.point n (omega arith)) r found.apart e less
-
-    pub there : r.first ≤ n → has_number runs n ≡ true
-    there from = has-at runs i r n e from (ends-from n runs i r found.point e)
-
-    cut-at : (new : List Run) → ((l : ℕ) → l ≤ n + 1 → AreRunsFrom l (r ∷ drop (suc i) runs) → IsSetTo l n false (r ∷ drop (suc i) runs) new)
-        → IsSetTo 0 n false runs (take i runs ++ new)
-    cut-at new = edit-at n (n + 1) false runs i (omega arith) found.within found.apart before-cut r new e
-
-    pub take-single : r.first ≤ n → r.first ≡ r.last → IsSetTo 0 n false runs (remove runs i)
-    take-single from same =
-        let to = ends-from n runs i r found.point e in
-        cut-at (drop (suc i) runs) (λ l less all. cut-single n l r (drop (suc i) runs) (omega (arith, from, same, to)) (omega (arith, from, same, to)) all)
-
-    pub take-first : n ≡ r.first → (r.first ≡ r.last → ⊥) → IsSetTo 0 n false runs (set runs i (run (n + 1) r.last))
-    take-first same more =
-        let to = ends-from n runs i r found.point e in
-        subst (IsSetTo 0 n false runs) (sym (set_split runs i (run (n + 1) r.last) (slice_get_within runs i r e)))
-        (cut-at (run (n + 1) r.last ∷ drop (suc i) runs)
-        (λ l less all. cut-first n l r (drop (suc i) runs) (omega (arith, same)) (omega (arith, same, more, to)) all))
-
-    pub take-last : r.first < n → r.last ≤ n → IsSetTo 0 n false runs (set runs i (run r.first (n - 1)))
-    take-last from past =
-        let to = ends-from n runs i r found.point e in
-        subst (IsSetTo 0 n false runs) (sym (set_split runs i (run r.first (n - 1)) (slice_get_within runs i r e)))
-        (cut-at (run r.first (n - 1) ∷ drop (suc i) runs) (λ l less all. cut-last n l r (drop (suc i) runs) (omega (arith, past, to)) from all))
-
-    pub take-middle : r.first < n → n < r.last → IsSetTo 0 n false runs (insert (set runs i (run r.first (n - 1))) (i + 1) (run (n + 1) r.last))
-    take-middle from to =
-        subst (IsSetTo 0 n false runs) (sym (halved runs i (run r.first (n - 1)) (run (n + 1) r.last) (slice_get_within runs i r e)))
-        (cut-at (run r.first (n - 1) ∷ run (n + 1) r.last ∷ drop (suc i) runs) (λ l less all. cut-middle n l r (drop (suc i) runs) from to all))
+    pub cut-has : (new : List Run) → AreBehind n r.last new mid → (m : ℕ) → has_number new m ≡ (not (eqb m n) && has_number old m)
+    cut-has new behind m =
+        behind.has m ∙ ap (λ (b : Bool). (ltb n m && leb m r.last) || b) (before.has m)
+        ∙ one-less r.first n r.last m (has_number rest m) cut-within.0 cut-within.1
+        (λ same. is-apart.apart m (omega (arith, same, cut-within.0)) (omega (arith, same, cut-within.1)))
+        ∙ ap (λ (b : Bool). not (eqb m n) && b) (sym (has-insert r rest m) ∙ ap (λ (rs : List Run). has_number rs m) (sym e))

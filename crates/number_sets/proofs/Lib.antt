@@ -2,3 +2,4 @@ pub mod BlockLaws
 pub mod CountLaws
 pub mod EditLaws
 pub mod RunLaws
+pub mod TreeLaws

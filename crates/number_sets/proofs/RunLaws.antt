@@ -1,24 +1,33 @@
 -- Lists of runs.
-use Rattle.std.proofs.Common.{◌≡◌, ◌≤◌, ◌<◌, ◌+◌, ℕ, zero, suc, Bool, true, false, cond, ◌||◌, eqb, leb, ltb, List, []}
-use Rattle.std.proofs.Common.{◌∷◌, ◌++◌, length, get_or, take, drop, Option, Some, None, refl, sym, ap, ◌∙◌, subst, arith}
-use Rattle.std.proofs.lemmas.Bool.{or_from, or_left, or_right, and_from, and_left, and_right, lt-leb, le-leb, eqb-true, ltb-true, ltb-false, true≢false}
-use Rattle.std.proofs.lemmas.Option.{slice_get_within, get_or_from_slice_get}
-use Rattle.std.specs.List.{slice_get}
-use Rattle.std.specs.Prelude.{◌↔◌, ◌==◌}
-use Rattle.std.specs.Option.{IsSomeAnd}
-use Rattle.std.proofs.lemmas.List.Sorted.{IsPartitionedBy-ltb}
-use Rattle.std.specs.List.Sorted.{IsNonDecreasingBy, IsPartitionedBy, IsPartitionPoint}
-use Rattle.number_sets.specs.declared.runs.Run.{Run}
-use Rattle.number_sets.specs.RunLists.{is_in_run, has_number, AreRunsFrom, count_numbers, IsFirstFrom, IsFound, IsRunOf, IsSetTo}
+use Rattle.std.proofs.Common.{◌≡◌, ◌≤◌, ◌<◌, ◌+◌, ℕ, zero, Bool, true, false, cond, ◌||◌, leb, ltb, List, []}
+use Rattle.std.proofs.Common.{◌∷◌, ◌++◌, length, Option, Some, None, refl, sym, ap, ◌∙◌, subst, arith, ⊎_elim}
+use Rattle.std.proofs.lemmas.Bool.{or_from, or_left, or_right, and_from, and_left, and_right, lt-leb, le-leb, lt-ltb, le-ltb, leb-true, leb-false, ltb-true, ltb-false, cases_lt, true≢false, and_parts}
+use Rattle.std.specs.Prelude.{◌↔◌}
+use Rattle.number_sets.specs.declared.run.Run.{Run}
+use Rattle.number_sets.specs.RunLists.{is_in_run, has_number, AreRunsFrom, count_numbers, size_of, insert_run, first_from, IsFirstRun, IsRunOf}
 
 pub lower : (a b : ℕ) (runs : List Run) → b ≤ a → AreRunsFrom a runs → AreRunsFrom b runs
 lower a b [] less up = tt
 lower a b (r ∷ rs) less up = (omega (arith, less, up.0), up.1, up.2)
 
+in-none : (m : ℕ) (r : Run) → r.last < m → is_in_run m r ≡ false
+in-none m r past = and_right (leb r.first m) (leb m r.last) (lt-leb m r.last past)
+
+in-not-yet : (m : ℕ) (r : Run) → m < r.first → is_in_run m r ≡ false
+in-not-yet m r before = and_left (leb r.first m) (leb m r.last) (lt-leb r.first m before)
+
+pub in-here : (m : ℕ) (r : Run) → r.first ≤ m → m ≤ r.last → is_in_run m r ≡ true
+in-here m r from to = and_from (leb r.first m) (leb m r.last) (le-leb r.first m from) (le-leb m r.last to)
+
+pub within : (n : ℕ) (r : Run) → is_in_run n r ≡ true → (r.first ≤ n) × (n ≤ r.last)
+within n r is =
+    let parts = and_parts (leb r.first n) (leb n r.last) is in
+    (leb-true r.first n parts.0, leb-true n r.last parts.1)
+
 pub none-below : (low : ℕ) (runs : List Run) (m : ℕ) → AreRunsFrom low runs → m < low → has_number runs m ≡ false
 none-below low [] m up below = refl
 none-below low (r ∷ rs) m up below =
-    or_from (is_in_run m r) (has_number rs m) (and_left (leb r.first m) (leb m r.last) (lt-leb r.first m (omega (arith, below, up.0))))
+    or_from (is_in_run m r) (has_number rs m) (in-not-yet m r (omega (arith, below, up.0)))
     (none-below (r.last + 2) rs m up.2 (omega (arith, below, up.0, up.1)))
 
 -- each run has a number
@@ -26,192 +35,274 @@ pub no_more : (low : ℕ) (runs : List Run) → AreRunsFrom low runs → length 
 no_more low [] up = omega arith
 no_more low (r ∷ rs) up = let rest = no_more (r.last + 2) rs up.2 in omega (arith, rest, up.1)
 
--- the ends ascend
-below_ends : (low : ℕ) (runs : List Run) (j : ℕ) (d : Run) → AreRunsFrom low runs → j < length runs → low ≤ (get_or runs j d).last
-below_ends low [] j d up within = absurd (omega (arith, within))
-below_ends low (r ∷ rs) zero d up within = omega (arith, up.0, up.1)
-below_ends low (r ∷ rs) (suc j) d up within = below_ends low rs j d (lower (r.last + 2) low rs (omega (arith, up.0, up.1)) up.2) (omega (arith, within))
+-- ---- runs in front of a run and behind it
+pub not-nil : (r : Run) (b a : List Run) → a ++ r ∷ b ≡ [] → false ≡ true
+not-nil r b [] none = absurd (cc)
+not-nil r b (x ∷ a) none = absurd (cc)
 
-pub ends-ascend : (low : ℕ) (runs : List Run) → AreRunsFrom low runs → IsNonDecreasingBy (λ (r : Run). r.last) runs
-ends-ascend low [] up i j d less within = absurd (omega (arith, within))
-ends-ascend low (r ∷ rs) up zero zero d less within = omega arith
-ends-ascend low (r ∷ rs) up zero (suc j) d less within = let later = below_ends (r.last + 2) rs j d up.2 (omega (arith, within)) in omega (arith, later)
-ends-ascend low (r ∷ rs) up (suc i) zero d less within = absurd (omega (arith, less))
-ends-ascend low (r ∷ rs) up (suc i) (suc j) d less within = ends-ascend (r.last + 2) rs up.2 i j d (omega (arith, less)) (omega (arith, within))
+or-grouped : (x y z : Bool) → (x || (y || z)) ≡ ((x || y) || z)
+or-grouped true y z = refl
+or-grouped false y z = refl
 
--- what `partition_point` asks
-pub ends-parted : (n : ℕ) (runs : List Run) → AreRunsFrom 0 runs → IsPartitionedBy (λ r. ltb r.last n) runs
-ends-parted n runs up = IsPartitionedBy-ltb (λ (r : Run). r.last) runs n (ends-ascend 0 runs up)
+pub has-append : (a b : List Run) (n : ℕ) → has_number (a ++ b) n ≡ (has_number a n || has_number b n)
+has-append [] b n = refl
+has-append (r ∷ a) b n = ap (λ (h : Bool). is_in_run n r || h) (has-append a b n) ∙ or-grouped (is_in_run n r) (has_number a n) (has_number b n)
 
--- and what it finds
-pub first-from : (n : ℕ) (runs : List Run) (i : ℕ) → IsPartitionPoint (λ r. ltb r.last n ≡ true) (λ r. ltb r.last n ≡ false) runs i → IsFirstFrom n runs i
-first-from n runs i point = (
-  λ k d from below. ltb-true (get_or runs k d).last n (point.0 k d from below),
-  λ k d from below. ltb-false (get_or runs k d).last n (point.1 k d from below),
+pub count-append : (a b : List Run) → count_numbers (a ++ b) ≡ count_numbers a + count_numbers b
+count-append [] b = omega arith
+count-append (r ∷ a) b = let rest = count-append a b in omega (arith, rest)
+
+module _ (r : Run) (b : List Run) where
+  pub front-up : (low : ℕ) (a : List Run) → AreRunsFrom low (a ++ r ∷ b) → AreRunsFrom low a
+  front-up low [] up = tt
+  front-up low (x ∷ a) up = (up.0, up.1, front-up (x.last + 2) a up.2)
+
+  pub back-up : (low : ℕ) (a : List Run) → AreRunsFrom low (a ++ r ∷ b) → AreRunsFrom (r.last + 2) b
+  back-up low [] up = up.2
+  back-up low (x ∷ a) up = back-up (x.last + 2) a up.2
+
+  pub middle-up : (low : ℕ) (a : List Run) → AreRunsFrom low (a ++ r ∷ b) → (low ≤ r.first) × (r.first ≤ r.last)
+  middle-up low [] up = (up.0, up.1)
+  middle-up low (x ∷ a) up = let rest = middle-up (x.last + 2) a up.2 in (omega (arith, rest.0, up.0, up.1), rest.1)
+
+  -- from right before the run on no number is in those in front of it
+  pub none-in-front : (m low : ℕ) (a : List Run) → AreRunsFrom low (a ++ r ∷ b) → r.first ≤ m + 1 → has_number a m ≡ false
+  none-in-front m low [] up from = refl
+  none-in-front m low (x ∷ a) up from =
+      let at = middle-up (x.last + 2) a up.2 in
+      or_from (is_in_run m x) (has_number a m) (in-none m x (omega (arith, at.0, from))) (none-in-front m (x.last + 2) a up.2 from)
+
+  module _ (low : ℕ) (a : List Run) (up : AreRunsFrom low (a ++ r ∷ b)) where
+    pub has-left : (m : ℕ) → m < r.first → has_number (a ++ r ∷ b) m ≡ has_number a m
+    has-left m before =
+        has-append a (r ∷ b) m ∙ by (has_number a m) (has_number (r ∷ b) m)
+        (none-below r.first (r ∷ b) m (omega arith, (middle-up low a up).1, back-up low a up) before)
+      where
+        by : (x y : Bool) → y ≡ false → (x || y) ≡ x
+        by true y none = refl
+        by false y none = none
+
+    pub has-right : (m : ℕ) → r.last < m → has_number (a ++ r ∷ b) m ≡ has_number b m
+    has-right m past =
+        has-append a (r ∷ b) m
+        ∙ by (has_number a m) (is_in_run m r) (has_number b m) (none-in-front m low a up (omega (arith, (middle-up low a up).1, past))) (in-none m r past)
+      where
+        by : (x y z : Bool) → x ≡ false → y ≡ false → (x || (y || z)) ≡ z
+        by x y z first none = rw (first, none) refl
+
+-- ---- one run more
+or-swapped : (x y z : Bool) → (x || (y || z)) ≡ (y || (x || z))
+or-swapped true true z = refl
+or-swapped true false z = refl
+or-swapped false true z = refl
+or-swapped false false z = refl
+
+has-insert-by : (t : Bool) (x r : Run) (rs new : List Run) (n : ℕ) → has_number new n ≡ (is_in_run n x || has_number rs n)
+    → has_number (cond t (x ∷ r ∷ rs) (r ∷ new)) n ≡ (is_in_run n x || (is_in_run n r || has_number rs n))
+has-insert-by true x r rs new n rest = refl
+has-insert-by false x r rs new n rest =
+    ap (λ (h : Bool). is_in_run n r || h) rest ∙ or-swapped (is_in_run n r) (is_in_run n x) (has_number rs n)
+
+pub has-insert : (x : Run) (runs : List Run) (n : ℕ) → has_number (insert_run x runs) n ≡ (is_in_run n x || has_number runs n)
+has-insert x [] n = refl
+has-insert x (r ∷ rs) n = has-insert-by (ltb x.first r.first) x r rs (insert_run x rs) n (has-insert x rs n)
+
+count-insert-by : (t : Bool) (x r : Run) (rs new : List Run) → count_numbers new ≡ size_of x + count_numbers rs
+    → count_numbers (cond t (x ∷ r ∷ rs) (r ∷ new)) ≡ size_of x + (size_of r + count_numbers rs)
+count-insert-by true x r rs new rest = refl
+count-insert-by false x r rs new rest = omega (arith, rest)
+
+pub count-insert : (x : Run) (runs : List Run) → count_numbers (insert_run x runs) ≡ size_of x + count_numbers runs
+count-insert x [] = refl
+count-insert x (r ∷ rs) = count-insert-by (ltb x.first r.first) x r rs (insert_run x rs) (count-insert x rs)
+
+length_insert_by : (t : Bool) (x r : Run) (rs new : List Run) → length new ≡ length rs + 1 → length (cond t (x ∷ r ∷ rs) (r ∷ new)) ≡ length (r ∷ rs) + 1
+length_insert_by true x r rs new rest = omega arith
+length_insert_by false x r rs new rest = omega (arith, rest)
+
+pub length_insert : (x : Run) (runs : List Run) → length (insert_run x runs) ≡ length runs + 1
+length_insert x [] = refl
+length_insert x (r ∷ rs) = length_insert_by (ltb x.first r.first) x r rs (insert_run x rs) (length_insert x rs)
+
+insert-left-by : (t : Bool) (x y : Run) (a m u v : List Run) → v ≡ u ++ m → cond t (x ∷ y ∷ (a ++ m)) (y ∷ v) ≡ cond t (x ∷ y ∷ a) (y ∷ u) ++ m
+insert-left-by true x y a m u v rest = refl
+insert-left-by false x y a m u v rest = ap (λ (rs : List Run). y ∷ rs) rest
+
+pub insert-left : (x k : Run) (a b : List Run) → x.first < k.first → insert_run x (a ++ k ∷ b) ≡ insert_run x a ++ k ∷ b
+insert-left x k [] b less = rw (lt-ltb x.first k.first less) refl
+insert-left x k (y ∷ a) b less =
+    insert-left-by (ltb x.first y.first) x y a (k ∷ b) (insert_run x a) (insert_run x (a ++ k ∷ b)) (insert-left x k a b less)
+
+pub insert-right : (low : ℕ) (x k : Run) (a b c : List Run) → AreRunsFrom low (a ++ k ∷ c) → k.first ≤ x.first
+    → insert_run x (a ++ k ∷ b) ≡ a ++ k ∷ insert_run x b
+insert-right low x k [] b c up more = rw (le-ltb x.first k.first more) refl
+insert-right low x k (y ∷ a) b c up more =
+    let at = middle-up k c (y.last + 2) a up.2 in
+    rw (le-ltb x.first y.first (omega (arith, at.0, up.1, more))) (ap (λ (rs : List Run). y ∷ rs) (insert-right (y.last + 2) x k a b c up.2 more))
+
+insert-first : (k : Run) (b : List Run) → AreRunsFrom (k.last + 2) b → k.first ≤ k.last → k ∷ b ≡ insert_run k b
+insert-first k [] up ascends = refl
+insert-first k (r ∷ b) up ascends = rw (lt-ltb k.first r.first (omega (arith, up.0, ascends))) refl
+
+pub insert-middle : (low : ℕ) (k : Run) (a b : List Run) → AreRunsFrom low (a ++ k ∷ b) → a ++ k ∷ b ≡ insert_run k (a ++ b)
+insert-middle low k [] b up = insert-first k b up.2 up.1
+insert-middle low k (y ∷ a) b up =
+    let at = middle-up k b (y.last + 2) a up.2 in
+    rw (le-ltb k.first y.first (omega (arith, at.0, up.1))) (ap (λ (rs : List Run). y ∷ rs) (insert-middle (y.last + 2) k a b up.2))
+
+-- The run touches none of the runs, and without it they ascend.
+pub record IsApart (low : ℕ) (x : Run) (runs : List Run) : Type 0 where
+  pub up : AreRunsFrom low runs
+  pub from : low ≤ x.first
+  pub ascends : x.first ≤ x.last
+  pub apart : (m : ℕ) → x.first ≤ m + 1 → m ≤ x.last + 1 → has_number runs m ≡ false
+
+pub or-second : (p q : Bool) → (p || q) ≡ false → q ≡ false
+or-second true q none = absurd (cc)
+or-second false q none = none
+
+-- a run that touches neither ends far before the first or begins far behind it
+far-by : (low : ℕ) (x r : Run) (rs : List Run) → IsApart low x (r ∷ rs) → (m : ℕ) → x.first ≤ m + 1 → m ≤ x.last + 1 → r.first ≤ m → m ≤ r.last → zero ≡ 1
+far-by low x r rs is m early late from to =
+    absurd (true≢false (sym (or_left (is_in_run m r) (has_number rs m) (in-here m r from to)) ∙ is.apart m early late))
+
+far-before : (low : ℕ) (x r : Run) (rs : List Run) → IsApart low x (r ∷ rs) → x.first < r.first → x.last + 2 ≤ r.first
+far-before low x r rs is less =
+    ⊎_elim
+    (λ (near : r.first < x.last + 2).
+    let wrong = far-by low x r rs is r.first (omega (arith, less)) (omega (arith, near)) (omega arith) is.up.1 in absurd (omega (arith, wrong)))
+    (λ upto. upto)
+    (cases_lt r.first (x.last + 2))
+
+far-behind : (low : ℕ) (x r : Run) (rs : List Run) → IsApart low x (r ∷ rs) → r.first ≤ x.first → r.last + 2 ≤ x.first
+far-behind low x r rs is more =
+    ⊎_elim
+    (λ (near : x.first < r.last + 2).
+    ⊎_elim
+    (λ (behind : r.last < x.first).
+    let wrong = far-by low x r rs is r.last (omega (arith, near)) (omega (arith, behind, is.ascends)) is.up.1 (omega arith) in absurd (omega (arith, wrong)))
+    (λ upto. let wrong = far-by low x r rs is x.first (omega arith) (omega (arith, is.ascends)) more upto in absurd (omega (arith, wrong)))
+    (cases_lt r.last x.first))
+    (λ upto. upto)
+    (cases_lt x.first (r.last + 2))
+
+insert-up-by : (low : ℕ) (x r : Run) (rs : List Run) → IsApart low x (r ∷ rs) → (IsApart (r.last + 2) x rs → AreRunsFrom (r.last + 2) (insert_run x rs))
+    → (t : Bool) → ltb x.first r.first ≡ t → AreRunsFrom low (cond t (x ∷ r ∷ rs) (r ∷ insert_run x rs))
+insert-up-by low x r rs is rest true e =
+    (is.from, is.ascends, (far-before low x r rs is (ltb-true x.first r.first e), is.up.1, is.up.2))
+insert-up-by low x r rs is rest false e = (
+  is.up.0,
+  is.up.1,
+  rest (record {
+    up = is.up.2;
+    from = far-behind low x r rs is (ltb-false x.first r.first e);
+    ascends = is.ascends;
+    apart = λ m early late. or-second (is_in_run m r) (has_number rs m) (is.apart m early late);
+  }),
 )
 
-has-by : (e flag here h g : Bool) → g ≡ cond e flag h → (e ≡ true → here ≡ false) → (here || g) ≡ cond e flag (here || h)
-has-by true flag here h g is out = rw (out refl) is
-has-by false flag here h g is out = ap (λ b. here || b) is
+pub insert-up : (low : ℕ) (x : Run) (runs : List Run) → IsApart low x runs → AreRunsFrom low (insert_run x runs)
+insert-up low x [] is = (is.from, is.ascends, tt)
+insert-up low x (r ∷ rs) is = insert-up-by low x r rs is (insert-up (r.last + 2) x rs) (ltb x.first r.first) refl
 
--- a change after the runs that end below the number
-pub set-behind : (n bound : ℕ) (flag : Bool) (runs new : List Run) (i low : ℕ) → bound ≤ n + 1 → low ≤ bound → i ≤ length runs
-    → ((k : ℕ) (d : Run) → k < i → (get_or runs k d).last + 2 ≤ bound) → AreRunsFrom low runs
-    → ((l : ℕ) → l ≤ bound → AreRunsFrom l (drop i runs) → IsSetTo l n flag (drop i runs) new)
-    → IsSetTo low n flag runs (take i runs ++ new)
-set-behind n bound flag runs new zero low near less within before up each = each low less up
-set-behind n bound flag [] new (suc i) low near less within before up each = absurd (omega (arith, within))
-set-behind n bound flag (r ∷ rs) new (suc i) low near less within before up each =
-    let here : r.last + 2 ≤ bound = before 0 r (omega arith) in
-    let rest : IsSetTo (r.last + 2) n flag rs (take i rs ++ new) =
-    set-behind n bound flag rs new i (r.last + 2) near here (omega (arith, within)) (λ k d below. before (suc k) d (omega (arith, below))) up.2 each in
-    let out : is_in_run n r ≡ false = and_right (leb r.first n) (leb n r.last) (lt-leb n r.last (omega (arith, here, near))) in
+insert-from-by : (low : ℕ) (x r : Run) (rs : List Run) → (AreRunsFrom (r.last + 2) (insert_run x rs) → IsApart (r.last + 2) x rs)
+    → (t : Bool) → AreRunsFrom low (cond t (x ∷ r ∷ rs) (r ∷ insert_run x rs)) → IsApart low x (r ∷ rs)
+insert-from-by low x r rs rest true all =
     record {
-      has = λ m. has-by (eqb m n) flag (is_in_run m r) (has_number rs m) (has_number (take i rs ++ new) m) (rest.has m)
-          (λ e. ap (λ k. is_in_run k r) (eqb-true m n e) ∙ out);
-      apart = (up.0, up.1, rest.apart);
-      counted = rw out (omega (arith, rest.counted));
+      up = lower (x.last + 2) low (r ∷ rs) (omega (arith, all.0, all.1)) all.2;
+      from = all.0;
+      ascends = all.1;
+      apart = λ m early late. none-below (x.last + 2) (r ∷ rs) m all.2 (omega (arith, late));
+    }
+insert-from-by low x r rs rest false all =
+    let later = rest all.2 in
+    record {
+      up = (all.0, all.1, later.up);
+      from = omega (arith, later.from, all.0, all.1);
+      ascends = later.ascends;
+      apart = λ m early late. or_from (is_in_run m r) (has_number rs m) (in-none m r (omega (arith, later.from, early))) (later.apart m early late);
     }
 
--- what stands at an index, and after it
-pub drop-at : (runs : List Run) (i : ℕ) (r : Run) → slice_get runs i ≡ Some r → drop i runs ≡ r ∷ drop (suc i) runs
-drop-at [] i r e = absurd (cc)
-drop-at (x ∷ xs) zero r e = let same : x ≡ r = cc in ap (λ (y : Run). y ∷ xs) same
-drop-at (x ∷ xs) (suc i) r e = drop-at xs i r e
+pub insert-from : (low : ℕ) (x : Run) (runs : List Run) → AreRunsFrom low (insert_run x runs) → IsApart low x runs
+insert-from low x [] up = record { up = tt; from = up.0; ascends = up.1; apart = λ m early late. refl }
+insert-from low x (r ∷ rs) up = insert-from-by low x r rs (insert-from (r.last + 2) x rs) (ltb x.first r.first) up
 
-pub drop-past : (runs : List Run) (i : ℕ) → slice_get runs i ≡ None → drop i runs ≡ []
-drop-past [] zero e = refl
-drop-past [] (suc i) e = refl
-drop-past (x ∷ xs) zero e = absurd (cc)
-drop-past (x ∷ xs) (suc i) e = drop-past xs i e
+-- ---- the first run that ends at a number or after it
+module _ (n : ℕ) where
+  pub first-past : (low : ℕ) (r : Run) (a b : List Run) → AreRunsFrom low (a ++ r ∷ b) → r.last < n → first_from n (a ++ r ∷ b) ≡ first_from n b
+  first-past low r [] b up less = rw (lt-leb n r.last less) refl
+  first-past low r (x ∷ a) b up less =
+      let at = middle-up r b (x.last + 2) a up.2 in
+      rw (lt-leb n x.last (omega (arith, at.0, at.1, less))) (first-past (x.last + 2) r a b up.2 less)
 
-apart-behind : (low : ℕ) (runs : List Run) (i : ℕ) → AreRunsFrom low runs → (l : ℕ) × AreRunsFrom l (drop i runs)
-apart-behind low runs zero up = (low, up)
-apart-behind low [] (suc i) up = (low, tt)
-apart-behind low (r ∷ rs) (suc i) up = apart-behind (r.last + 2) rs i up.2
+  first-here-by : (t : Bool) (x r : Run) (o p : Option Run) → (o ≡ None → p ≡ Some r) → cond t (Some x) o ≡ None → cond t (Some x) p ≡ Some r
+  first-here-by true x r o p rest none = absurd (cc)
+  first-here-by false x r o p rest none = rest none
 
--- the run at an index and those after it
-pub apart-at : (runs : List Run) (i : ℕ) (r : Run) → AreRunsFrom 0 runs → slice_get runs i ≡ Some r → AreRunsFrom r.first (r ∷ drop (suc i) runs)
-apart-at runs i r up e =
-    let behind = apart-behind 0 runs i up in
-    let all : AreRunsFrom behind.0 (r ∷ drop (suc i) runs) = subst (AreRunsFrom behind.0) (drop-at runs i r e) behind.1 in
-    (omega arith, all.1, all.2)
+  pub first-here : (r : Run) (a b : List Run) → n ≤ r.last → first_from n a ≡ None → first_from n (a ++ r ∷ b) ≡ Some r
+  first-here r [] b upto none = rw (le-leb n r.last upto) refl
+  first-here r (x ∷ a) b upto none =
+      first-here-by (leb n x.last) x r (first_from n a) (first_from n (a ++ r ∷ b)) (first-here r a b upto) none
 
-has-behind : (n : ℕ) (runs : List Run) (i : ℕ) → i ≤ length runs → ((k : ℕ) (d : Run) → k < i → (get_or runs k d).last < n)
-    → has_number runs n ≡ has_number (drop i runs) n
-has-behind n runs zero within before = refl
-has-behind n [] (suc i) within before = absurd (omega (arith, within))
-has-behind n (r ∷ rs) (suc i) within before =
-    let here : r.last < n = before 0 r (omega arith) in
-    let out : is_in_run n r ≡ false = and_right (leb r.first n) (leb n r.last) (lt-leb n r.last here) in
-    let rest : has_number rs n ≡ has_number (drop i rs) n = has-behind n rs i (omega (arith, within)) (λ k d below. before (suc k) d (omega (arith, below))) in
-    rw out rest
+  first-front-by : (t : Bool) (x q : Run) (o p : Option Run) → (o ≡ Some q → p ≡ Some q) → cond t (Some x) o ≡ Some q → cond t (Some x) p ≡ Some q
+  first-front-by true x q o p rest found = found
+  first-front-by false x q o p rest found = rest found
 
--- a number that the run at an index contains
-pub has-at : (runs : List Run) (i : ℕ) (r : Run) (m : ℕ) → slice_get runs i ≡ Some r → r.first ≤ m → m ≤ r.last → has_number runs m ≡ true
-has-at [] i r m e from to = absurd (cc)
-has-at (x ∷ xs) zero r m e from to =
-    let same : x ≡ r = cc in
-    or_left (is_in_run m x) (has_number xs m) (ap (is_in_run m) same ∙ and_from (leb r.first m) (leb m r.last) (le-leb r.first m from) (le-leb m r.last to))
-has-at (x ∷ xs) (suc i) r m e from to = or_right (is_in_run m x) (has_number xs m) (has-at xs i r m e from to)
+  pub first-front : (q r : Run) (a b : List Run) → first_from n a ≡ Some q → first_from n (a ++ r ∷ b) ≡ Some q
+  first-front q r [] b found = absurd (cc)
+  first-front q r (x ∷ a) b found = first-front-by (leb n x.last) x q (first_from n a) (first_from n (a ++ r ∷ b)) (first-front q r a b) found
+
+  first-none-by : (x : Run) (xs : List Run) (m : ℕ) → n ≤ m → (first_from n xs ≡ None → has_number xs m ≡ false)
+      → (t : Bool) → leb n x.last ≡ t → cond t (Some x) (first_from n xs) ≡ None → has_number (x ∷ xs) m ≡ false
+  first-none-by x xs m from rest true e none = absurd (cc)
+  first-none-by x xs m from rest false e none =
+      or_from (is_in_run m x) (has_number xs m) (in-none m x (omega (arith, leb-false n x.last e, from))) (rest none)
+
+  pub first-none : (m : ℕ) → n ≤ m → (runs : List Run) → first_from n runs ≡ None → has_number runs m ≡ false
+  first-none m from [] none = refl
+  first-none m from (x ∷ xs) none = first-none-by x xs m from (first-none m from xs) (leb n x.last) refl none
+
+  first-is : (low : ℕ) (x : Run) (xs : List Run) → AreRunsFrom low (x ∷ xs) → n ≤ x.last → IsFirstRun n (x ∷ xs) x
+  first-is low x xs up upto =
+      record {
+        within = upto;
+        ascends = up.1;
+        ahead = λ m from before. none-below x.first (x ∷ xs) m (omega arith, up.1, up.2) before;
+        all = λ m from to. or_left (is_in_run m x) (has_number xs m) (in-here m x from to);
+        behind = or_from (is_in_run (x.last + 1) x) (has_number xs (x.last + 1)) (in-none (x.last + 1) x (omega arith))
+            (none-below (x.last + 2) xs (x.last + 1) up.2 (omega arith));
+      }
+
+  first-some-by : (low : ℕ) (x : Run) (xs : List Run) (r : Run) → AreRunsFrom low (x ∷ xs) → (first_from n xs ≡ Some r → IsFirstRun n xs r)
+      → (t : Bool) → leb n x.last ≡ t → cond t (Some x) (first_from n xs) ≡ Some r → IsFirstRun n (x ∷ xs) r
+  first-some-by low x xs r up rest true e is =
+      let same : x ≡ r = cc in subst (IsFirstRun n (x ∷ xs)) same (first-is low x xs up (leb-true n x.last e))
+  first-some-by low x xs r up rest false e is =
+      let past = leb-false n x.last e in
+      let later = rest is in
+      record {
+        within = later.within;
+        ascends = later.ascends;
+        ahead = λ m from before. or_from (is_in_run m x) (has_number xs m) (in-none m x (omega (arith, past, from))) (later.ahead m from before);
+        all = λ m from to. or_right (is_in_run m x) (has_number xs m) (later.all m from to);
+        behind = or_from (is_in_run (r.last + 1) x) (has_number xs (r.last + 1)) (in-none (r.last + 1) x (omega (arith, past, later.within))) later.behind;
+      }
+
+  pub first-some : (low : ℕ) (runs : List Run) (r : Run) → AreRunsFrom low runs → first_from n runs ≡ Some r → IsFirstRun n runs r
+  first-some low [] r up found = absurd (cc)
+  first-some low (x ∷ xs) r up found = first-some-by low x xs r up (first-some (x.last + 2) xs r up.2) (leb n x.last) refl found
+
+pub first-behind : (n : ℕ) (runs : List Run) (r : Run) → IsFirstRun n runs r → has_number runs n ≡ false → n < r.first
+first-behind n runs r is none =
+    ⊎_elim (λ (less : n < r.first). less) (λ more. absurd (true≢false (sym (is.all n more is.within) ∙ none))) (cases_lt n r.first)
+
+pub run-of : (n : ℕ) (runs : List Run) (r : Run) → IsFirstRun n runs r → r.first ≤ n → IsRunOf runs n r
+run-of n runs r is from = record { within = is.within; all = λ m more to. is.all m (omega (arith, from, more)) to; behind = is.behind }
 
 -- there are no runs exactly where no number is in them
-abbrev IsEmptyWhere : List Run → ℕ → Type 0
-IsEmptyWhere runs len = ((len == 0) ≡ true) ↔ ◌≡◌ {A = ℕ → Bool} (has_number runs) (λ n. false)
-
-empty-by : (runs : List Run) → AreRunsFrom 0 runs → IsEmptyWhere runs (length runs)
-empty-by [] up = (λ yes. refl, λ none. refl)
-empty-by (r ∷ rs) up = (
-  λ yes. let none : length (r ∷ rs) ≡ 0 = eqb-true (length (r ∷ rs)) 0 yes in absurd (omega (arith, none)),
-  λ none. absurd (true≢false (sym (has-at (r ∷ rs) 0 r r.first refl (omega arith) up.1) ∙ ap (λ (f : ℕ → Bool). f r.first) none)),
+pub empty-where : (runs : List Run) → AreRunsFrom 0 runs → (runs ≡ []) ↔ ◌≡◌ {A = ℕ → Bool} (has_number runs) (λ n. false)
+empty-where [] up = (λ yes. refl, λ none. refl)
+empty-where (r ∷ rs) up = (
+  λ yes. absurd (cc),
+  λ none. absurd (true≢false (sym (or_left (is_in_run r.first r) (has_number rs r.first) (in-here r.first r (omega arith) up.1)) ∙ ap (λ (f : ℕ → Bool). f r.first) none)),
 )
-
-pub no-runs : (runs : List Run) (len : ℕ) → len ≡ length runs → AreRunsFrom 0 runs → IsEmptyWhere runs len
-no-runs runs len counted up = subst (λ (n : ℕ). IsEmptyWhere runs n) (sym counted) (empty-by runs up)
-
-module _ (n : ℕ) (runs : List Run) (i : ℕ) (within : i ≤ length runs) (before : (k : ℕ) (d : Run) → k < i → (get_or runs k d).last < n) where
-  pub absent-past : slice_get runs i ≡ None → has_number runs n ≡ false
-  absent-past e = has-behind n runs i within before ∙ ap (λ (rs : List Run). has_number rs n) (drop-past runs i e)
-
-  pub absent-before : (r : Run) → AreRunsFrom 0 runs → slice_get runs i ≡ Some r → n < r.first → has_number runs n ≡ false
-  absent-before r up e less =
-      has-behind n runs i within before ∙ ap (λ (rs : List Run). has_number rs n) (drop-at runs i r e)
-      ∙ none-below r.first (r ∷ drop (suc i) runs) n (apart-at runs i r up e) less
-
-  pub absent-after : (r : Run) → AreRunsFrom 0 runs → slice_get runs i ≡ Some r → n ≡ r.last + 1 → has_number runs n ≡ false
-  absent-after r up e is =
-      let all = apart-at runs i r up e in
-      has-behind n runs i within before ∙ ap (λ (rs : List Run). has_number rs n) (drop-at runs i r e)
-      ∙ or_from (is_in_run n r) (has_number (drop (suc i) runs) n) (and_right (leb r.first n) (leb n r.last) (lt-leb n r.last (omega (arith, is))))
-      (none-below (r.last + 2) (drop (suc i) runs) n all.2 (omega (arith, is)))
-
-pub ends-before : (n : ℕ) (runs : List Run) (i : ℕ) → IsFirstFrom n runs i → (m : ℕ) → n ≤ m → (k : ℕ) (d : Run) → k < i → (get_or runs k d).last < m
-ends-before n runs i point m less k d below = let ends = point.0 k d (omega arith) below in omega (arith, ends, less)
-
--- the run at the index that was found ends at the number or after it
-pub ends-from : (n : ℕ) (runs : List Run) (i : ℕ) (r : Run) → IsFirstFrom n runs i → slice_get runs i ≡ Some r → n ≤ r.last
-ends-from n runs i r point e =
-    let ends = point.1 i r (omega arith) (slice_get_within runs i r e) in
-    let same : get_or runs i r ≡ r = get_or_from_slice_get runs i r r e in
-    subst (λ (x : Run). n ≤ x.last) same ends
-
-pub run-of : (n : ℕ) (runs : List Run) (i : ℕ) (r : Run) → AreRunsFrom 0 runs → IsFirstFrom n runs i → i ≤ length runs → slice_get runs i ≡ Some r → r.first ≤ n
-    → IsRunOf runs n r
-run-of n runs i r up point within e from =
-    let to = ends-from n runs i r point e in
-    record {
-      within = to;
-      all = λ m less more. has-at runs i r m e (omega (arith, from, less)) more;
-      behind = absent-after (r.last + 1) runs i within (ends-before n runs i point (r.last + 1) (omega (arith, to))) r up e refl;
-    }
-
--- the run at the index that was found for a number is the first with a number from that one on
-module _ (n : ℕ) (runs : List Run) (i : ℕ) (found : IsFound n runs i) where
-  pub none-past : slice_get runs i ≡ None → (m : ℕ) → n ≤ m → has_number runs m ≡ false
-  none-past e m less = absent-past m runs i found.within (ends-before n runs i found.point m less) e
-
-  module _ (r : Run) (e : slice_get runs i ≡ Some r) where
-    pub none-ahead : (m : ℕ) → n ≤ m → m < r.first → has_number runs m ≡ false
-    none-ahead m less below = absent-before m runs i found.within (ends-before n runs i found.point m less) r found.apart e below
-
-    pub has-start : r.first ≤ n → has_number runs n ≡ true
-    has-start from = has-at runs i r n e from (ends-from n runs i r found.point e)
-
-    pub has-first : has_number runs r.first ≡ true
-    has-first = has-at runs i r r.first e (omega arith) (apart-at runs i r found.apart e).1
-
-same_by : (e flag h : Bool) → (e ≡ true → h ≡ flag) → h ≡ cond e flag h
-same_by true flag h is = is refl
-same_by false flag h is = refl
-
--- nothing is to be changed
-pub set-same : (n : ℕ) (flag : Bool) (runs : List Run) → AreRunsFrom 0 runs → has_number runs n ≡ flag → IsSetTo 0 n flag runs runs
-set-same n flag runs up is =
-    record {
-      has = λ m. same_by (eqb m n) flag (has_number runs m) (λ e. ap (has_number runs) (eqb-true m n e) ∙ is);
-      apart = up;
-      counted = rw is refl;
-    }
-
--- where a run has a number between its first and its last, there are more numbers than runs
-pub fewer-runs : (low : ℕ) (runs : List Run) (i : ℕ) (r : Run) → AreRunsFrom low runs → slice_get runs i ≡ Some r → r.first + 2 ≤ r.last
-    → length runs < count_numbers runs
-fewer-runs low [] i r up e long = absurd (cc)
-fewer-runs low (x ∷ xs) zero r up e long =
-    let same : x ≡ r = cc in
-    let is_long : x.first + 2 ≤ x.last = subst (λ (y : Run). y.first + 2 ≤ y.last) (sym same) long in
-    let rest = no_more (x.last + 2) xs up.2 in
-    omega (arith, is_long, rest)
-fewer-runs low (x ∷ xs) (suc i) r up e long = let rest = fewer-runs (x.last + 2) xs i r up.2 e long in omega (arith, rest, up.1)
-
--- what is read where a run stands
-read-by : (o : Option Run) (n : ℕ) (x : Run) → IsSomeAnd o (λ r. r.last + 1 ≡ n) → ((r : Run) → o ≡ Some r → x ≡ r) → (o ≡ Some x) × (x.last + 1 ≡ n)
-read-by None n x ends same = absurd ends
-read-by (Some r) n x ends same = let is : x ≡ r = same r refl in (ap Some (sym is), ap (λ (y : Run). y.last + 1) is ∙ ends)
-
-pub read-at : (runs : List Run) (i n : ℕ) (x : Run) → IsSomeAnd (slice_get runs i) (λ r. r.last + 1 ≡ n) → x ≡ get_or runs i x
-    → (slice_get runs i ≡ Some x) × (x.last + 1 ≡ n)
-read-at runs i n x ends is = read-by (slice_get runs i) n x ends (λ r e. is ∙ get_or_from_slice_get runs i r x e)
-
-pub ends-at : (o : Option Run) (n : ℕ) (r : Run) → o ≡ Some r → r.last + 1 ≡ n → IsSomeAnd o (λ r. r.last + 1 ≡ n)
-ends-at o n r e ends = rw e ends

@@ -1,6 +1,6 @@
 -- What contracts say of a set of numbers.
 use Rattle.std.specs.Prelude.{ℕ, Bool, List}
-use Rattle.number_sets.specs.declared.runs.Run.{Run}
+use Rattle.number_sets.specs.declared.run.Run.{Run}
 use Rattle.number_sets.specs.RunLists.{has_number}
 
 -- A set of numbers as contracts see it.

@@ -1,4 +1,4 @@
-//! Sets of numbers, as sorted runs.
+//! Sets of numbers, as runs in balanced trees with counts.
 //!
 //! Beside the runs of held addresses stand closed ones: these and the avoided addresses right after
 //! them, so full blocks are skipped at once. A block of which an avoided address was held and given
@@ -6,8 +6,9 @@
 #![tactic(auto)]
 
 mod blocks;
-mod counts;
+mod run;
 mod runs;
+mod tree;
 
 pub use blocks::BlockSet;
 pub use runs::NumberRuns;

@@ -1,61 +1,60 @@
-//! Sets of numbers as sorted runs.
+//! Sets of numbers as runs in a balanced tree.
 ghost use Rattle.std.specs.Prelude.{◌≡◌, ◌↔◌, ◌≤◌, ◌<◌, ◌+◌, ◌-◌, ◌==◌, ◌||◌, ◌&&◌, true, false};
-ghost use Rattle.std.specs.Prelude.{not, length, take};
-ghost use Rattle.std.specs.Prelude.{slice_get, vec_len, vec_capacity, IsTrue, IsFalse, IfSome};
-ghost use Rattle.std.specs.Prelude.{IfNone, IsSomeAnd, OnOk};
+ghost use Rattle.std.specs.Prelude.{not, length, ◌^◌};
+ghost use Rattle.std.specs.Prelude.{vec_len, vec_capacity, IsTrue, IfSome};
+ghost use Rattle.std.specs.Prelude.{IfNone, OnOk};
 ghost use Rattle.number_sets.specs.Blocks.{IsLeft};
 ghost use Rattle.number_sets.specs.Counts.{count_below, is_beyond};
-ghost use Rattle.std.specs.List.{insert};
-ghost use Rattle.std.specs.List.Sorted.{IsPartitionPoint};
 ghost use Rattle.number_sets.specs.Least.{IsLeastIn, NonePasses};
-ghost use Rattle.number_sets.specs.RunLists.{AreRunsFrom, IsFound, IsRunOf, IsSetTo, count_numbers};
-ghost use Rattle.number_sets.specs.RunLists.{has_number};
+ghost use Rattle.number_sets.specs.RunLists.{AreRunsFrom, IsRunOf, count_numbers, has_number};
+ghost use Rattle.number_sets.specs.RunLists.{insert_run, is_in_run, size_of};
+ghost use Rattle.number_sets.specs.RunLists.{AreBefore, AreBehind, IsClear};
 ghost use Rattle.number_sets.specs.Runs.{has};
+ghost use Rattle.number_sets.specs.Trees.{IsBalanced, runs_of};
 
-use crate::counts::recount;
+use crate::run::Run;
+use crate::tree::{Node, Tree};
 use mlb_base::NoMemory;
 use std::alloc::Global;
 use std::marker::Model;
+use std::mem;
 
-/// The numbers from the first to the last, both included.
-#[derive(Clone, Copy)]
-pub(crate) struct Run {
-    pub(crate) first: u128,
-    pub(crate) last: u128,
-}
-
-/// A set of numbers, held as the runs of numbers that follow one another, ascending.
+/// A set of numbers, held as the runs of numbers that follow one another, in a balanced tree.
 ///
-/// There is memory for as many runs as there are numbers, so that taking a number out, which may
-/// cut a run in two, takes none. A look-up takes the logarithm of the number of runs. Where a
-/// number comes or goes, the runs after it are moved or counted anew.
+/// There is a node for each number, though a run takes only one: so taking a number out, which may
+/// cut a run in two, takes no memory. A look-up, a number that comes and one that goes each take
+/// the logarithm of the number of runs.
 pub struct NumberRuns {
-    runs: Vec<Run>,
-    /// For each run how many numbers are in those before it.
-    before: Vec<usize>,
-    count: usize,
+    runs: Tree,
+    /// The nodes that hold no run.
+    spare: Vec<Box<Node>>,
+    /// How many nodes there are, in the tree and spare.
+    nodes: usize,
+    alloc: Global,
 }
 
 impl Drop for NumberRuns {
     fn drop(self) {
         let NumberRuns {
             runs: _,
-            before: _,
-            count: _,
+            spare: _,
+            nodes: _,
+            alloc: _,
         } = self;
     }
 }
 
 impl Model for NumberRuns {
-    ghost use Rattle.std.specs.Prelude.{◌-◌, min, vec_capacity};
-    ghost use Rattle.number_sets.specs.RunLists.{AreHeld};
+    ghost use Rattle.std.specs.Prelude.{◌-◌, vec_len, vec_capacity};
+    ghost use Rattle.number_sets.specs.RunLists.{AreHeld, count_numbers};
     ghost use Rattle.number_sets.specs.Runs.{RunsValue};
+    ghost use Rattle.number_sets.specs.Trees.{IsBalanced, runs_of};
 
     ghost Value = { RunsValue };
 
-    ghost view = { λ s. record { runs = s.runs.items; room = min (vec_capacity s.runs) (vec_capacity s.before) - s.count } };
+    ghost view = { λ s. record { runs = (runs_of s.runs); room = s.nodes - count_numbers (runs_of s.runs) } };
 
-    ghost invariant = { λ s. AreHeld s.runs.items s.before.items s.count (min (vec_capacity s.runs) (vec_capacity s.before)) };
+    ghost invariant = { λ s. IsBalanced s.runs × AreHeld (runs_of s.runs) (vec_len s.spare) (vec_capacity s.spare) s.nodes };
 }
 
 #[tactic(auto, unfolding(crate::specs::Runs::has))]
@@ -65,9 +64,10 @@ impl NumberRuns {
         ensures { has result ≡ (λ n. false) }
     {
         NumberRuns {
-            runs: Vec::new(alloc),
-            before: Vec::new(alloc),
-            count: 0,
+            runs: Tree::Empty,
+            spare: Vec::new(alloc),
+            nodes: 0,
+            alloc,
         }
     }
 
@@ -77,20 +77,18 @@ impl NumberRuns {
         ensures room { OnOk result (more ≤ self.new.room) }
         ensures kept { self.old.room ≤ self.new.room }
     {
-        // There are no more runs than numbers.
-        let Some(wanted) = more.checked_add(self.count - self.runs.len()) else {
-            return Err(NoMemory);
-        };
-        self.before.reserve(wanted)?;
-        self.runs.reserve(wanted)?;
-        Ok(())
+        let lacking = more.saturating_sub(self.nodes - self.runs.count());
+        let before = self.spare.len();
+        let added = add_nodes(self.alloc, &mut self.spare, self.nodes, lacking);
+        self.nodes += self.spare.len() - before;
+        added
     }
 
     /// Whether there is room for a number more.
     pub fn has_room(&self) -> bool
         ensures { IsTrue result → 0 < self.now.room }
     {
-        self.count < self.runs.capacity() && self.count < self.before.capacity()
+        self.runs.count() < self.nodes
     }
 
     /// Puts the number in. There is room for it, so it takes no memory.
@@ -99,12 +97,12 @@ impl NumberRuns {
         ensures has { has self.new ≡ (λ n. (n == number) || has self.old n) }
         ensures room { self.old.room ≤ self.new.room + 1 }
     {
-        // A run that ends right before the number takes it in.
-        let index = first_from(&self.runs, number.saturating_sub(1));
-        if put(&mut self.runs, index, number) {
-            self.count += 1;
-            recount(&self.runs, &mut self.before, index);
+        if self.contains(number) {
+            return;
         }
+        let first = take_before(&mut self.runs, &mut self.spare, number);
+        let last = take_behind(&mut self.runs, &mut self.spare, number);
+        put(&mut self.runs, &mut self.spare, Run { first, last });
     }
 
     /// Takes the number out. It takes no memory.
@@ -112,10 +110,9 @@ impl NumberRuns {
         ensures has { has self.new ≡ (λ n. not (n == number) && has self.old n) }
         ensures room { self.old.room ≤ self.new.room }
     {
-        let index = first_from(&self.runs, number);
-        if take(&mut self.runs, index, number) {
-            self.count -= 1;
-            recount(&self.runs, &mut self.before, index);
+        if let Some(run) = take(&mut self.runs, &mut self.spare, number) {
+            put_before(&mut self.runs, &mut self.spare, run.first, number);
+            put_behind(&mut self.runs, &mut self.spare, number, run.last);
         }
     }
 
@@ -139,7 +136,18 @@ impl NumberRuns {
         ensures some { IfSome result (λ n. IsLeastIn (has self.now) low high n) }
         ensures none { IfNone result (NonePasses (has self.now) low high) }
     {
-        first_of(&self.runs, low, high)
+        if high < low {
+            return None;
+        }
+        let run = self.runs.first_from(low)?;
+        if high < run.first {
+            return None;
+        }
+        if run.first <= low {
+            Some(low)
+        } else {
+            Some(run.first)
+        }
     }
 
     /// The least number from low to high that isn't in the set; in the logarithm of the number of
@@ -171,203 +179,192 @@ impl NumberRuns {
         ensures some { IfSome result (λ n. IsLeastIn (is_beyond self.now fewer.now) low high n) }
         ensures none { IfNone result (NonePasses (is_beyond self.now fewer.now) low high) }
     {
-        let index = self.runs_up_to(fewer, self.count_beyond(fewer, low));
+        let (all, some) = (&self.runs, &fewer.runs);
         // After the run there are more such numbers ahead than at the low end: so this run has the
         // first of them, or none does.
-        let run = run_at(&self.runs, index.checked_sub(1)?)?;
+        let run = all.last_up_to(all, some, count_beyond(all, some, low))?;
         fewer.first_absent(low.max(run.first), high.min(run.last))
     }
-
-    /// How many runs have at most so many numbers below their first that are in this set and not in
-    /// the other.
-    fn runs_up_to(&self, fewer: &NumberRuns, most: usize) -> usize
-        requires { IsLeft (has self.now) fewer.now }
-        ensures within { result ≤ length self.now.runs }
-        ensures point { IsPartitionPoint
-            (λ run. count_below (is_beyond self.now fewer.now) run.first ≤ most)
-            (λ run. most < count_below (is_beyond self.now fewer.now) run.first) self.now.runs
-            result }
-    {
-        self.runs
-            .partition_point(|run| self.count_beyond(fewer, run.first) <= most)
-    }
-
-    /// How many numbers below this one are in this set and not in the other, whose numbers are all
-    /// in this one.
-    fn count_beyond(&self, fewer: &NumberRuns, number: u128) -> usize
-        ensures { result ≡ count_below (has self.now) number - count_below (has fewer.now) number }
-    {
-        self.count_below(number)
-            .saturating_sub(fewer.count_below(number))
-    }
-
-    /// How many numbers of the set are below this one; in the logarithm of the number of runs.
-    fn count_below(&self, number: u128) -> usize
-        ensures { result ≡ count_below (has self.now) number }
-    {
-        let index = first_from(&self.runs, number);
-        match run_at(&self.runs, index) {
-            Some(run) => self.before[index] + number.saturating_sub(run.first) as usize,
-            None => self.count,
-        }
-    }
-}
-
-/// The index of the first run that ends at the number or after it.
-fn first_from(runs: &[Run], number: u128) -> usize
-    requires { AreRunsFrom 0 runs.now }
-    ensures { IsFound number runs.now result }
-{
-    runs.partition_point(|run| run.last < number)
-}
-
-fn run_at(runs: &[Run], index: usize) -> Option<Run>
-    ensures { result ≡ slice_get runs.now index }
-{
-    runs.get(index).copied()
 }
 
 /// The run that the number is in.
-fn run_of(runs: &[Run], number: u128) -> Option<Run>
-    requires { AreRunsFrom 0 runs.now }
-    ensures some { IfSome result (λ run. IsRunOf runs.now number run) }
-    ensures none { IfNone result (has_number runs.now number ≡ false) }
+fn run_of(runs: &Tree, number: u128) -> Option<Run>
+    requires balanced { IsBalanced runs.now }
+    requires apart { AreRunsFrom 0 (runs_of runs.now) }
+    ensures some { IfSome result (λ run. IsRunOf (runs_of runs.now) number run) }
+    ensures none { IfNone result (has_number (runs_of runs.now) number ≡ false) }
 {
-    let run = run_at(runs, first_from(runs, number))?;
+    let run = runs.first_from(number)?;
     if run.first <= number { Some(run) } else { None }
 }
 
-/// The least number from low to high that is in a run.
-fn first_of(runs: &[Run], low: u128, high: u128) -> Option<u128>
-    requires { AreRunsFrom 0 runs.now }
-    ensures some { IfSome result (λ n. IsLeastIn (has_number runs.now) low high n) }
-    ensures none { IfNone result (NonePasses (has_number runs.now) low high) }
+/// So many nodes more are spare, and the list of them has a place for each node. Where there is no
+/// memory some may have been made.
+fn add_nodes(
+    alloc: Global,
+    spare: &mut Vec<Box<Node>>,
+    nodes: usize,
+    more: usize,
+) -> Result<(), NoMemory>
+    requires spare { vec_len spare.old ≤ nodes }
+    requires place { nodes ≤ vec_capacity spare.old }
+    ensures added { OnOk result (vec_len spare.old + more ≤ vec_len spare.new) }
+    ensures kept { vec_len spare.old ≤ vec_len spare.new }
+    ensures place { nodes + (vec_len spare.new - vec_len spare.old) ≤ vec_capacity spare.new }
 {
-    if high < low {
-        return None;
-    }
-    let run = run_at(runs, first_from(runs, low))?;
-    if high < run.first {
-        return None;
-    }
-    if run.first <= low {
-        Some(low)
-    } else {
-        Some(run.first)
-    }
-}
-
-/// Puts the number in, at the first run that ends right before it or later. Whether it wasn't there
-/// is answered.
-fn put(runs: &mut Vec<Run>, index: usize, number: u128) -> bool
-    requires found { IsFound (number - 1) runs.old.items index }
-    requires room { vec_len runs.old < vec_capacity runs.old }
-    ensures set { IsSetTo 0 number true runs.old.items runs.new.items }
-    ensures added { result ≡ not (has_number runs.old.items number) }
-    ensures same { IsFalse result → runs.new.items ≡ runs.old.items }
-    ensures kept { take index runs.new.items ≡ take index runs.old.items }
-    ensures capacity { vec_capacity runs.new ≡ vec_capacity runs.old }
-{
-    let alone = Run {
-        first: number,
-        last: number,
+    // The nodes that hold runs may come back to the list.
+    let Some(places) = more.checked_add(nodes - spare.len()) else {
+        return Err(NoMemory);
     };
-    let Some(run) = run_at(runs, index) else {
-        place(runs, index, alone);
-        return true;
+    spare.reserve(places)?;
+    let wanted = spare.len() + more;
+    'fill: while spare.len() < wanted {
+        spare.push_reserved(Node::new(alloc)?);
+    }
+    Ok(())
+}
+
+/// Takes the run with the number out, if there is one. Its node is spare then.
+#[tactic(auto, using(crate::proofs::RunLaws::length_insert))]
+fn take(runs: &mut Tree, spare: &mut Vec<Box<Node>>, number: u128) -> Option<Run>
+    requires balanced { IsBalanced runs.old }
+    requires apart { AreRunsFrom 0 (runs_of runs.old) }
+    requires place { length (runs_of runs.old) + vec_len spare.old ≤ vec_capacity spare.old }
+    requires fits { count_numbers (runs_of runs.old) < 2 ^ 64 }
+    ensures balanced { IsBalanced runs.new }
+    ensures some { IfSome result (λ run. runs_of runs.old ≡ insert_run run (runs_of runs.new)) }
+    ensures here { IfSome result (λ run. is_in_run number run ≡ true) }
+    ensures none { IfNone result (has_number (runs_of runs.old) number ≡ false) }
+    ensures same { IfNone result (runs_of runs.new ≡ runs_of runs.old) }
+    ensures nodes { length (runs_of runs.new) + vec_len spare.new
+        ≡ length (runs_of runs.old) + vec_len spare.old }
+    ensures capacity { vec_capacity spare.new ≡ vec_capacity spare.old }
+{
+    let _run = run_of(runs, number)?;
+    let (rest, taken) = mem::replace(runs, Tree::Empty).take(number);
+    *runs = rest;
+    let (run, node) = taken?;
+    spare.push_reserved(node);
+    Some(run)
+}
+
+/// Puts the run among the others, with which it shares no number. There is a spare node for it.
+#[tactic(auto, using(crate::proofs::RunLaws::length_insert))]
+fn put(runs: &mut Tree, spare: &mut Vec<Box<Node>>, run: Run)
+    requires balanced { IsBalanced runs.old }
+    requires apart { AreRunsFrom 0 (runs_of runs.old) }
+    requires ascends { run.first ≤ run.last }
+    requires node { 0 < vec_len spare.old }
+    requires fits { count_numbers (runs_of runs.old) + size_of run < 2 ^ 64 }
+    ensures balanced { IsBalanced runs.new }
+    ensures runs { runs_of runs.new ≡ insert_run run (runs_of runs.old) }
+    ensures nodes { length (runs_of runs.new) + vec_len spare.new
+        ≡ length (runs_of runs.old) + vec_len spare.old }
+    ensures capacity { vec_capacity spare.new ≡ vec_capacity spare.old }
+{
+    let Some(node) = spare.pop() else {
+        unreachable!()
     };
-    if run.first.saturating_sub(number) > 1 {
-        place(runs, index, alone);
-    } else if number < run.first {
-        runs[index] = Run {
-            first: number,
-            last: run.last,
-        };
-    } else if run.last < number {
-        extend(runs, index, number);
-    } else {
-        return false;
-    }
-    true
+    *runs = mem::replace(runs, Tree::Empty).put(node, run);
 }
 
-/// The run stands at the index. There is room for it.
-fn place(runs: &mut Vec<Run>, index: usize, run: Run)
-    requires index { index ≤ vec_len runs.old }
-    requires room { vec_len runs.old < vec_capacity runs.old }
-    ensures items { runs.new.items ≡ insert runs.old.items index run }
-    ensures capacity { vec_capacity runs.new ≡ vec_capacity runs.old }
+/// Takes the run that ends right before the number out, if there is one. The first of the numbers
+/// that follow one another up to this one is answered.
+fn take_before(runs: &mut Tree, spare: &mut Vec<Box<Node>>, number: u128) -> u128
+    requires balanced { IsBalanced runs.old }
+    requires apart { AreRunsFrom 0 (runs_of runs.old) }
+    requires place { length (runs_of runs.old) + vec_len spare.old ≤ vec_capacity spare.old }
+    requires fits { count_numbers (runs_of runs.old) < 2 ^ 64 }
+    requires absent { has_number (runs_of runs.old) number ≡ false }
+    ensures balanced { IsBalanced runs.new }
+    ensures taken { AreBefore result number (runs_of runs.old) (runs_of runs.new) }
+    ensures nodes { length (runs_of runs.new) + vec_len spare.new
+        ≡ length (runs_of runs.old) + vec_len spare.old }
+    ensures capacity { vec_capacity spare.new ≡ vec_capacity spare.old }
 {
-    // Nothing is refused, since there is room.
-    if let Err(refused) = runs.insert(index, run) {
-        drop(refused);
+    match take(runs, spare, number.saturating_sub(1)) {
+        Some(run) => run.first,
+        None => number,
     }
 }
 
-/// The run at the index, which ends right before the number, takes it in, and is joined with the
-/// next one where that begins right after the number.
-fn extend(runs: &mut Vec<Run>, index: usize, number: u128)
-    requires found { IsFound (number - 1) runs.old.items index }
-    requires ends { IsSomeAnd (slice_get runs.old.items index) (λ run. run.last + 1 ≡ number) }
-    ensures set { IsSetTo 0 number true runs.old.items runs.new.items }
-    ensures kept { take index runs.new.items ≡ take index runs.old.items }
-    ensures capacity { vec_capacity runs.new ≡ vec_capacity runs.old }
+/// Takes the run that begins right after the number out, if there is one. The last of the numbers
+/// that follow one another from this one on is answered.
+fn take_behind(runs: &mut Tree, spare: &mut Vec<Box<Node>>, number: u128) -> u128
+    requires balanced { IsBalanced runs.old }
+    requires apart { AreRunsFrom 0 (runs_of runs.old) }
+    requires place { length (runs_of runs.old) + vec_len spare.old ≤ vec_capacity spare.old }
+    requires fits { count_numbers (runs_of runs.old) < 2 ^ 64 }
+    requires absent { has_number (runs_of runs.old) number ≡ false }
+    ensures balanced { IsBalanced runs.new }
+    ensures taken { AreBehind number result (runs_of runs.old) (runs_of runs.new) }
+    ensures nodes { length (runs_of runs.new) + vec_len spare.new
+        ≡ length (runs_of runs.old) + vec_len spare.old }
+    ensures capacity { vec_capacity spare.new ≡ vec_capacity spare.old }
 {
-    let first = runs[index].first;
-    let next = run_at(runs, index + 1);
-    match next {
-        Some(next) if next.first.saturating_sub(number) <= 1 => {
-            runs[index] = Run {
-                first,
-                last: next.last,
-            };
-            let _joined = runs.remove(index + 1);
-        }
-        _ => {
-            runs[index] = Run {
-                first,
-                last: number,
-            };
-        }
-    }
-}
-
-/// Takes the number out of the first run that ends at it or later. Whether it was there is
-/// answered.
-fn take(runs: &mut Vec<Run>, index: usize, number: u128) -> bool
-    requires found { IsFound number runs.old.items index }
-    requires room { count_numbers runs.old.items ≤ vec_capacity runs.old }
-    ensures set { IsSetTo 0 number false runs.old.items runs.new.items }
-    ensures taken { result ≡ has_number runs.old.items number }
-    ensures same { IsFalse result → runs.new.items ≡ runs.old.items }
-    ensures kept { take index runs.new.items ≡ take index runs.old.items }
-    ensures capacity { vec_capacity runs.new ≡ vec_capacity runs.old }
-{
-    let Some(run) = run_at(runs, index) else {
-        return false;
+    let Some(next) = runs.first_from(number) else {
+        return number;
     };
-    if number < run.first {
-        return false;
+    if next.first.saturating_sub(number) > 1 {
+        return number;
     }
-    if run.first == run.last {
-        let _single = runs.remove(index);
-    } else if number == run.first {
-        runs[index] = Run {
-            first: number + 1,
-            last: run.last,
-        };
-    } else {
-        runs[index] = Run {
-            first: run.first,
-            last: number - 1,
-        };
-        if number < run.last {
-            let rest = Run {
-                first: number + 1,
-                last: run.last,
-            };
-            place(runs, index + 1, rest);
-        }
+    match take(runs, spare, next.first) {
+        Some(run) => run.last,
+        None => number,
     }
-    true
+}
+
+/// Puts the numbers from the first up to before this one in, if there are any.
+fn put_before(runs: &mut Tree, spare: &mut Vec<Box<Node>>, first: u128, number: u128)
+    requires upto { first ≤ number }
+    requires clear { IsClear (runs_of runs.old) first number }
+    requires node { 0 < vec_len spare.old }
+    requires fits { count_numbers (runs_of runs.old) + (number - first) < 2 ^ 64 }
+    requires balanced { IsBalanced runs.old }
+    requires apart { AreRunsFrom 0 (runs_of runs.old) }
+    ensures balanced { IsBalanced runs.new }
+    ensures put { AreBefore first number (runs_of runs.new) (runs_of runs.old) }
+    ensures nodes { length (runs_of runs.new) + vec_len spare.new
+        ≡ length (runs_of runs.old) + vec_len spare.old }
+    ensures capacity { vec_capacity spare.new ≡ vec_capacity spare.old }
+{
+    if first < number {
+        let last = number - 1;
+        put(runs, spare, Run { first, last });
+    }
+}
+
+/// Puts the numbers after this one up to the last in, if there are any.
+fn put_behind(runs: &mut Tree, spare: &mut Vec<Box<Node>>, number: u128, last: u128)
+    requires from { number ≤ last }
+    requires clear { IsClear (runs_of runs.old) (number + 1) (last + 1) }
+    requires node { 0 < vec_len spare.old }
+    requires fits { count_numbers (runs_of runs.old) + (last - number) < 2 ^ 64 }
+    requires balanced { IsBalanced runs.old }
+    requires apart { AreRunsFrom 0 (runs_of runs.old) }
+    ensures balanced { IsBalanced runs.new }
+    ensures put { AreBehind number last (runs_of runs.new) (runs_of runs.old) }
+    ensures nodes { length (runs_of runs.new) + vec_len spare.new
+        ≡ length (runs_of runs.old) + vec_len spare.old }
+    ensures capacity { vec_capacity spare.new ≡ vec_capacity spare.old }
+{
+    if number < last {
+        let first = number + 1;
+        put(runs, spare, Run { first, last });
+    }
+}
+
+/// How many numbers below this one are in the first runs and not in the others.
+pub(crate) fn count_beyond(all: &Tree, fewer: &Tree, number: u128) -> usize
+    requires all_balanced { IsBalanced all.now }
+    requires fewer_balanced { IsBalanced fewer.now }
+    requires all_apart { AreRunsFrom 0 (runs_of all.now) }
+    requires fewer_apart { AreRunsFrom 0 (runs_of fewer.now) }
+    requires all_fit { count_numbers (runs_of all.now) < 2 ^ 64 }
+    requires fewer_fit { count_numbers (runs_of fewer.now) < 2 ^ 64 }
+    ensures { result ≡ count_below (has_number (runs_of all.now)) number
+        - count_below (has_number (runs_of fewer.now)) number }
+{
+    all.count_below(number)
+        .saturating_sub(fewer.count_below(number))
 }

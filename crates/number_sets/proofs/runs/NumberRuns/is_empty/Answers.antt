@@ -1,11 +1,10 @@
-use Rattle.std.proofs.Common.{◌≡◌, length, arith}
 use Rattle.number_sets.specs.Runs.{has}
-use Rattle.number_sets.proofs.RunLaws.{no-runs}
+use Rattle.number_sets.specs.Trees.{runs_of}
+use Rattle.number_sets.proofs.RunLaws.{empty-where}
 use Rattle.number_sets.proofs.runs.NumberRuns.is_empty.Goals as goal
 
 pub returns : goal.returns
 unfolding has
 returns c =
-    let runs = c.self.inside.runs in
-    let counted : runs.len ≡ length runs.items = omega (arith, runs.ok) in
-    rw (← c.self.view_is, c.is_empty.ensures) (no-runs runs.items runs.len counted c.self.invariant.apart)
+    let empty = empty-where (runs_of c.self.inside.runs) c.self.invariant.1.apart in
+    rw (← c.self.view_is) (λ yes. empty.0 (c.is_empty.ensures.0 yes), λ none. c.is_empty.ensures.1 (empty.1 none))

@@ -1,5 +1,5 @@
 -- The test of configurations decides that they are one.
-use Rattle.std.proofs.Common.{◌≡◌, ℕ, Bool, true, false, not, eqb, eqb-true, ◌&&◌, List, Option, Some, None, Decides, refl, sym, ap, ◌∙◌, subst}
+use Rattle.std.proofs.Common.{◌≡◌, ℕ, ◌<◌, suc, Bool, true, false, not, eqb, eqb-true, ◌&&◌, List, ◌∷◌, length, drop, get_or, drop-cons, Option, Some, None, Decides, refl, sym, ap, ◌∙◌}
 use Rattle.std.proofs.lemmas.Bool.{and_parts, and_from, eq-eqb, true≢false}
 use Rattle.std.proofs.lemmas.Slice.Eq.{bytes_eq-Decides, slice_eq-Decides}
 use Rattle.std.specs.Cmp.Lexicographic.{pointwise}
@@ -298,3 +298,13 @@ not-other (Some before) (Some after) e = ap Some (sym (config-is before after (n
 pub same-not_other : (config : Option ConfigValue) → is_other config config ≡ false
 same-not_other None = refl
 same-not_other (Some config) = ap not (config-itself config)
+
+-- lists are others where two items at one place are
+pub first-differs : {T : Type 0} (same : T → T → Bool) (xs ys : List T) (i : ℕ) (x y : T) → i < length xs → i < length ys → x ≡ get_or xs i x
+    → y ≡ get_or ys i y → same x y ≡ false → pointwise same (drop i xs) (drop i ys) ≡ pointwise same xs ys → false ≡ pointwise same xs ys
+first-differs same xs ys i x y in_xs in_ys xi yi differ rest =
+    sym (ap (λ zs. pointwise same zs (drop i ys)) (drop-cons xs i x in_xs)
+    ∙ ap (λ zs. pointwise same (get_or xs i x ∷ drop (suc i) xs) zs) (drop-cons ys i y in_ys)
+    ∙ ap (λ b. b && pointwise same (drop (suc i) xs) (drop (suc i) ys))
+    (ap (λ z. same z (get_or ys i y)) (sym xi) ∙ ap (same x) (sym yi) ∙ differ))
+    ∙ rest

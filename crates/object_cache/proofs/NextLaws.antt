@@ -11,7 +11,11 @@ use Rattle.pool_config.specs.Compile.{compiled}
 use Rattle.pool_config.specs.ConfigValue.{ConfigValue}
 use Rattle.object_history.specs.Cache.{Cached, cached_after, event_compiles, in_force, objects_after}
 use Rattle.object_history.specs.Observations.{Watched}
-use Rattle.object_cache.specs.Change.{next_of, with_next}
+use Rattle.object_cache.specs.declared.change.Applied.{Applied}
+use Rattle.object_cache.specs.declared.change.TakeNote.TheVariants.{Quiet}
+use Rattle.object_cache.specs.Change.{applied, next_of, note_of, with_next}
+use Rattle.object_cache.specs.Same.{is_other}
+use Rattle.object_cache.proofs.SameLaws.{same-not_other}
 
 compiling : (b : Bool) (s : Cached) (event : Event) → b ≡ true
     → with_next s (next_of s event) ≡ record (cached_after (Watched event) s) { config = in_force s.config (compiled (objects_after (Watched event) s.objects)) }
@@ -48,3 +52,13 @@ next-after s Expired e = absurd (cc)
 next-after s (Members names) e = absurd (cc)
 next-after s (Frame interface bytes) e = absurd (cc)
 next-after s Ignored e = absurd (cc)
+
+-- where nothing is compiled, the configuration in force stays
+pub uncompiled : (s : Cached) (event : Event) → event_compiles s.objects s.config_ended event ≡ false
+    → ◌≡◌ {A = Applied} (record { other_config = false; note = Quiet }) (applied s event)
+uncompiled s event e =
+    let held = objects_after (Watched event) s.objects in
+    let config : (cached_after (Watched event) s).config ≡ s.config = ap (λ b. cond b (in_force s.config (compiled held)) s.config) e in
+    let other : false ≡ is_other s.config (cached_after (Watched event) s).config = sym (ap (is_other s.config) config ∙ same-not_other s.config) in
+    let note : Quiet ≡ note_of (event_compiles s.objects s.config_ended event) held = sym (ap (λ b. note_of b held) e) in
+    λ i. record { other_config = other i; note = note i }

@@ -14,20 +14,23 @@ use Rattle.std.specs.Str.{bytes_eq}
 use Rattle.kube_labels.specs.Names.{name_cmp}
 use Rattle.kube_labels.specs.Pairs.{pair_eq}
 use Rattle.kube_labels.proofs.PairLaws.{pairs_eq-Decides}
-use Rattle.kube_model.specs.declared.event.Event.TheVariants.{Changed, Deleted}
+use Rattle.kube_model.specs.declared.event.Event.{Event}
+use Rattle.kube_model.specs.declared.event.Event.TheVariants.{Changed, Deleted, ListEnd, Expired}
+use Rattle.kube_model.specs.declared.event.ListGroup.{ListGroup}
+use Rattle.kube_model.specs.declared.event.ListGroup.TheVariants as groups
 use Rattle.kube_model.specs.declared.key.Key.{Key}
 use Rattle.kube_model.specs.declared.namespace.Namespace.{Namespace}
 use Rattle.kube_model.specs.declared.object.Kind.{Kind}
 use Rattle.kube_model.specs.declared.object.Kind.TheVariants as kinds
 use Rattle.kube_model.specs.declared.object.Object.{Object}
 use Rattle.kube_model.specs.declared.object.Object.TheVariants as objects
-use Rattle.object_history.specs.Cache.{held_after}
+use Rattle.object_history.specs.Cache.{Cached, cached_after, event_compiles, held_after}
 use Rattle.object_history.specs.Kinds.{namespace_resource}
 use Rattle.object_history.specs.Observations.{Watched}
 use Rattle.versioned_map.specs.declared.map.Versioned.{Versioned}
-use Rattle.versioned_map.proofs.HeldLaws.{held_at-removed, held_at-shown}
-use Rattle.versioned_map.specs.Objects.{held_at, shown, version_at}
-use Rattle.object_cache.specs.Labels.{differs, is_named, is_namespace, labels_in, namespace_in}
+use Rattle.versioned_map.proofs.HeldLaws.{held_at-expired, held_at-removed, held_at-shown}
+use Rattle.versioned_map.specs.Objects.{at_version, expired, held_at, shown, version_at}
+use Rattle.object_cache.specs.Labels.{differs, is_named, is_namespace, is_relabelled, labels_in, namespace_in}
 
 abbrev Namespaces : Type 0
 Namespaces = List (List ℕ × Versioned Namespace)
@@ -164,3 +167,29 @@ pub deleted-named : (es : Namespaces) (kind : Kind) (key : Key) (test : Bool) (r
 deleted-named es kind key test result name ascend test_is result_is =
     kind-differs es kind key name ascend ∙ ap (λ b. b && bytes_eq key.name name) (sym test_is) ∙ sym (named-if test key.name name)
     ∙ ap (λ (r : Option (List ℕ)). is_named r name) (sym result_is)
+
+-- ---- by other events
+expired-labels : (found : Option (Versioned Namespace)) → in_held (option_map (at_version 0) found) ≡ in_held found
+expired-labels None = refl
+expired-labels (Some h) = refl
+
+expired-differs : (es : Namespaces) (name : List ℕ) → differs es (expired es) name ≡ false
+expired-differs es name =
+    ap (λ (found : Option (Versioned Namespace)). not (pointwise pair_eq (labels_in es name) (in_held found))) (held_at-expired name_cmp es name)
+    ∙ ap (λ pairs. not (pointwise pair_eq (labels_in es name) pairs)) (expired-labels (held_at name_cmp es name)) ∙ unchanged (labels_in es name)
+
+pub expired-none : (s : Cached) (event : Event) (name : List ℕ) → event ≡ Expired → is_relabelled s (cached_after (Watched event) s) name ≡ false
+expired-none s event name is = ap (λ e. is_relabelled s (cached_after (Watched e) s) name) is ∙ expired-differs s.namespaces name
+
+list-differs : (s : Cached) (group : ListGroup) (name : List ℕ) → event_compiles s.objects s.config_ended (ListEnd group) ≡ false
+    → is_relabelled s (cached_after (Watched (ListEnd group)) s) name ≡ false
+list-differs s groups.Config name e = absurd (true≢false e)
+list-differs s groups.Service name e = none-differs s.namespaces name
+list-differs s groups.Endpoint name e = none-differs s.namespaces name
+
+pub list-none : (s : Cached) (event : Event) (group : ListGroup) (name : List ℕ) → event ≡ ListEnd group
+    → event_compiles s.objects s.config_ended event ≡ false
+    → is_relabelled s (cached_after (Watched event) s) name ≡ false
+list-none s event group name is e =
+    ap (λ x. is_relabelled s (cached_after (Watched x) s) name) is
+    ∙ list-differs s group name (ap (event_compiles s.objects s.config_ended) (sym is) ∙ e)

@@ -401,11 +401,11 @@ impl ObjectCache {
                 relabelled_by_shown(&self.namespaces, *version, object)
             }
             Event::Deleted { kind, key } => relabelled_by_deleted(&self.namespaces, *kind, key),
-            Event::ListEnd { .. }
-            | Event::Expired
-            | Event::Members { .. }
-            | Event::Frame { .. }
-            | Event::Ignored => None,
+            Event::ListEnd { .. } => None,
+            Event::Expired => None,
+            Event::Members { .. } => None,
+            Event::Frame { .. } => None,
+            Event::Ignored => None,
         }
     }
 

@@ -8,7 +8,7 @@ ghost use Rattle.object_cache.specs.Change.{note_in};
 ghost use Rattle.object_cache.specs.Same.{is_other};
 
 use crate::change::TakeNote;
-use crate::same::is_same_config;
+use crate::same::is_other;
 use kube_model::ConfigFault;
 use mlb_base::NoMemory;
 use pool_config::{CompileFault, Config, ObjectSet, compile};
@@ -83,15 +83,22 @@ impl NextConfig {
         config.is_some() || self.outcome.is_ok()
     }
 
+    /// The configuration that is in force then, where this one was.
+    fn in_force<'a>(&'a self, config: Option<&'a Config>) -> Option<&'a Config>
+        ensures { option_copied result
+            ≡ in_force (option_copied config.entry) (compiled self.now.objects) }
+    {
+        match &self.outcome {
+            Ok(next) => Some(next),
+            Err(_) => config,
+        }
+    }
+
     /// Whether another configuration is in force then than this one.
     pub(crate) fn is_other(&self, config: Option<&Config>) -> bool
         ensures { result ≡ is_other (option_copied config.entry)
             (in_force (option_copied config.entry) (compiled self.now.objects)) }
     {
-        match (config, &self.outcome) {
-            (_, Err(_)) => false,
-            (None, Ok(_)) => true,
-            (Some(config), Ok(next)) => !is_same_config(config, next),
-        }
+        is_other(config, self.in_force(config))
     }
 }

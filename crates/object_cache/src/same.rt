@@ -1,8 +1,8 @@
 //! Whether two configurations are one.
-ghost use Rattle.std.specs.Prelude.{◌≡◌, ◌↔◌, ◌&&◌, ◌==◌, Bool, IsTrue};
+ghost use Rattle.std.specs.Prelude.{◌≡◌, ◌&&◌, ◌==◌, Bool};
 ghost use Rattle.std.specs.Option.{option_copied};
 ghost use Rattle.std.specs.Cmp.Lexicographic.{pointwise};
-ghost use Rattle.object_cache.specs.Same.{same_allocation, same_allocations, same_bgp, same_config};
+ghost use Rattle.object_cache.specs.Same.{is_other, same_allocation, same_allocations, same_bgp, same_config};
 ghost use Rattle.std.specs.Str.{bytes_eq};
 ghost use Rattle.object_cache.specs.Same.{same_l2, same_large, same_peer, same_pool};
 ghost use Rattle.object_cache.specs.Same.{same_selectors, same_texts};
@@ -128,12 +128,22 @@ fn are_same<T: Same>(items: &[T], others: &[T]) -> bool
 }
 
 /// Whether the configurations are one. It takes no memory.
-pub(crate) fn is_same_config(config: &Config, other: &Config) -> bool
-    ensures value { result ≡ same_config config.now other.now }
-    ensures meaning { IsTrue result ↔ (config.now ≡ other.now) }
+fn is_same_config(config: &Config, other: &Config) -> bool
+    ensures { result ≡ same_config config.now other.now }
 {
     are_same(config.pools.as_slice(), other.pools.as_slice())
         && are_same(config.l2.as_slice(), other.l2.as_slice())
         && are_same(config.bgp.as_slice(), other.bgp.as_slice())
         && are_same(config.peers.as_slice(), other.peers.as_slice())
+}
+
+/// Whether the second configuration is another than the first. It takes no memory.
+pub(crate) fn is_other(before: Option<&Config>, after: Option<&Config>) -> bool
+    ensures { result ≡ is_other (option_copied before.entry) (option_copied after.entry) }
+{
+    match (before, after) {
+        (None, None) => false,
+        (Some(before), Some(after)) => !is_same_config(before, after),
+        _ => true,
+    }
 }

@@ -1,5 +1,6 @@
 -- Free keys, by one test of all that is held.
-use Rattle.std.proofs.Common.{◌≡◌, ◌==◌, Bool, true, false, not, cond, ◌&&◌, ◌||◌, List, [], ◌∷◌, map, filter, refl, ap}
+use Rattle.std.proofs.Common.{◌≡◌, ◌==◌, ℕ, Bool, true, false, not, cond, ◌&&◌, ◌||◌, List, [], ◌∷◌, map, filter, refl, ap}
+use Rattle.std.specs.Str.{bytes_eq}
 use Rattle.kube_model.specs.declared.key.Key.{Key}
 use Rattle.kube_model.specs.declared.service.Service.{Service}
 use Rattle.object_cache.specs.Stays.{passing}
@@ -22,3 +23,10 @@ pub listed-passing : (alone : Bool) (test : Key → Service → Bool) (services 
     ≡ passing test (cond alone (listed services) services)
 listed-passing true test services = ap (map (λ (e : Key × Versioned Service). e.0)) (filter-both (λ e. test e.0 e.1.object) is_listed services)
 listed-passing false test services = refl
+
+-- those of the namespace that pass
+pub passing-in : (namespace : List ℕ) (test : Key → Service → Bool) (services : List (Key × Versioned Service))
+    → keys_where (λ key held. bytes_eq namespace key.namespace && test key held.object) services
+    ≡ passing test (filter (λ e. bytes_eq namespace e.0.namespace) services)
+passing-in namespace test services =
+    ap (map (λ (e : Key × Versioned Service). e.0)) (filter-both (λ e. test e.0 e.1.object) (λ e. bytes_eq namespace e.0.namespace) services)

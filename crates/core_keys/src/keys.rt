@@ -1,7 +1,8 @@
 //! Lists of keys.
-ghost use Rattle.std.specs.Prelude.{◌≡◌, ◌++◌, ◌∷◌, if◌then◌else◌, [], not, false, take, IfOk};
+ghost use Rattle.std.specs.Prelude.{◌≡◌, ◌++◌, ◌∷◌, if◌then◌else◌, [], not, false, filter, IfOk};
 ghost use Rattle.std.specs.Prelude.{OnOk, OnErr};
 ghost use Rattle.std.specs.Option.{option_copied};
+ghost use Rattle.std.specs.Str.{bytes_eq};
 ghost use Rattle.object_cache.specs.Stays.{passing};
 ghost use Rattle.versioned_map.specs.Objects.{listed, object_at};
 ghost use Rattle.std.specs.BTreeSet.{IsOrdered};
@@ -85,15 +86,6 @@ pub fn push_new(keys: &mut Keys, key: &Key) -> Result<(), NoMemory>
     keys.push(key.copy()?)
 }
 
-/// The first keys alone, so many of them, unless all are kept.
-pub fn truncate_unless(keeps: bool, queue: &mut Keys, len: usize)
-    ensures { queue.new ≡ (if keeps then queue.old else take len queue.old) }
-{
-    if !keeps {
-        queue.truncate(len);
-    }
-}
-
 /// The key, where it isn't in the list.
 fn own_key(alloc: Global, key: &Key, queue: &Keys) -> Result<Vec<Key>, NoMemory>
     ensures { IfOk result (λ keys. keys.items ≡ own_key key.now queue.now) }
@@ -164,16 +156,82 @@ fn push_free(
     push_passing(keys, &test, services)
 }
 
-/// Every free key: those with a recorded address first.
-pub fn all_free(
+/// Every free key, where they are asked for: those with a recorded address first.
+pub fn free_where(
     alloc: Global,
+    are_asked: bool,
     queue: &Keys,
     awaiting: &AwaitingKeys,
     services: &Services,
 ) -> Result<Vec<Key>, NoMemory>
-    ensures { IfOk result (λ keys. keys.items ≡ all_free queue.now awaiting.now services.now) }
+    ensures { IfOk result (λ keys. keys.items ≡ (if are_asked
+        then all_free queue.now awaiting.now services.now else [])) }
 {
+    if !are_asked {
+        return Ok(Vec::new(alloc));
+    }
     free_among(alloc, false, queue, awaiting, services)
+}
+
+/// A test whether a key is free, with a recorded address or without, and of the namespace.
+#[derive(Drop)]
+struct FreeIn<'a> {
+    queue: &'a Keys,
+    awaiting: &'a AwaitingKeys,
+    assigned: bool,
+    namespace: &'a Text,
+}
+
+impl ObjectTest<Service> for FreeIn<'_> {
+    ghost use Rattle.std.specs.Prelude.{◌&&◌};
+    ghost use Rattle.std.specs.Str.{bytes_eq};
+    ghost use Rattle.core_rules.specs.Core.{is_free_with};
+
+    ghost passes = { λ t key held. bytes_eq t.namespace.now key.namespace && is_free_with t.queue.now t.awaiting.now t.assigned key held.object };
+
+    fn passes(&self, key: &Key, held: &Versioned<Service>) -> bool {
+        *self.namespace == key.namespace
+            && is_free_with(self.queue, self.awaiting, self.assigned, key, &held.object)
+    }
+}
+
+/// The free keys of the namespace with a recorded address, or without, to the end of these.
+fn push_free_in(
+    keys: &mut Vec<Key>,
+    assigned: bool,
+    namespace: &Text,
+    queue: &Keys,
+    awaiting: &AwaitingKeys,
+    services: &Services,
+) -> Result<(), NoMemory>
+    ensures { OnOk result (keys.new.items
+        ≡ keys.old.items ++ passing (is_free_with queue.now awaiting.now assigned)
+        (filter (λ e. bytes_eq namespace.now e.0.namespace) services.now)) }
+{
+    let test = FreeIn {
+        queue,
+        awaiting,
+        assigned,
+        namespace,
+    };
+    push_passing(keys, &test, services)
+}
+
+/// Every free key of the namespace: those with a recorded address first.
+pub fn free_in(
+    alloc: Global,
+    namespace: &Text,
+    queue: &Keys,
+    awaiting: &AwaitingKeys,
+    services: &Services,
+) -> Result<Vec<Key>, NoMemory>
+    ensures { IfOk result (λ keys. keys.items ≡ all_free queue.now awaiting.now
+        (filter (λ e. bytes_eq namespace.now e.0.namespace) services.now)) }
+{
+    let mut keys = Vec::new(alloc);
+    push_free_in(&mut keys, true, namespace, queue, awaiting, services)?;
+    push_free_in(&mut keys, false, namespace, queue, awaiting, services)?;
+    Ok(keys)
 }
 
 /// Every free key, or those of listed services alone: those with a recorded address first.

@@ -6,7 +6,8 @@
 //! Services that wait for an address are found by an ordered set of their keys: those that are
 //! handled, have an empty record, and are neither queued nor awaiting. It is kept while the core is
 //! ready; while it isn't, nothing is queued, and when it becomes ready every free key is. A release
-//! goes through these keys, and queues them but for its own. A turn puts its key in where the held
+//! goes through these keys, and queues them but for its own; where a namespace has other labels, its
+//! own are queued. A turn puts its key in where the held
 //! record is empty, and a reply that stores an empty record does; where memory runs out for it, the
 //! turn isn't made, and the put stays in flight.
 #![tactic(auto)]
@@ -19,8 +20,8 @@ mod waiting;
 
 pub use awaiting::{AwaitingKeys, await_newer, keep_awaiting, stop_awaiting};
 pub use keys::{
-    Keys, Services, all_free, append_new, drop_key, is_free, keep_listed, lacks_record, lacks_with,
-    listed_and_free, own_and_waiting, push_new, truncate_unless,
+    Keys, Services, append_new, drop_key, free_in, free_where, is_free, keep_listed, lacks_record,
+    lacks_with, listed_and_free, own_and_waiting, push_new,
 };
 pub use listing::Listed;
 pub use waiting::WaitingKeys;

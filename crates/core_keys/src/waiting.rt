@@ -2,6 +2,7 @@
 ghost use Rattle.std.specs.Prelude.{◌≡◌, ◌&&◌, ◌||◌, [], if◌then◌else◌, not, false, IfOk, OnOk};
 ghost use Rattle.std.specs.Prelude.{OnErr};
 ghost use Rattle.std.specs.BTreeSet.{IsOrdered, contains};
+ghost use Rattle.std.specs.Str.{bytes_eq};
 ghost use Rattle.kube_model.specs.declared.key.Key.{Key as KeyValue};
 ghost use Rattle.kube_model.specs.Keys.{key_cmp, same_key};
 ghost use Rattle.core_rules.specs.Take.{is_unlisted, listed_keys};
@@ -11,6 +12,7 @@ use crate::keys::{Services, is_unlisted};
 use crate::listing::Listed;
 use crate::picking::passing_where;
 use key_queue::KeyTest;
+use kube_labels::Text;
 use kube_model::Key;
 use mlb_base::{NoMemory, TryCopy};
 use std::alloc::Global;
@@ -100,6 +102,14 @@ impl WaitingKeys {
         if is_lost {
             self.keys.retain(|k| *k == *key);
         }
+    }
+
+    /// No key of the namespace waits. It takes no memory.
+    pub fn release_in(&mut self, namespace: &Text)
+        ensures { (k : KeyValue) → contains key_cmp self.new k
+            ≡ (not (bytes_eq namespace.now k.namespace) && contains key_cmp self.old k) }
+    {
+        self.keys.retain(|key| key.namespace != *namespace);
     }
 
     /// Those that aren't held, or weren't listed, don't wait, and where a claim was lost none does.

@@ -32,13 +32,12 @@ use Rattle.core_rules.specs.Keys.{own_key}
 use Rattle.core_rules.specs.Replied.{stored, refused, in_doubt, replied_to, put_terms}
 use Rattle.core_rules.specs.Run.{TranscriptEntry, Took, Expired, Turned, Heard, core_after, IsRun, observed}
 use Rattle.core_rules.specs.Take.{Configures, Expires, core_by, core_take, core_expired, effect_of, configured, have_claims, is_unlisted, listed_and_free, listed_keys}
-use Rattle.core_rules.specs.Take.{shows, with_service, without_service, with_services_listed, wakes}
+use Rattle.core_rules.specs.Take.{shows, with_service, without_service, with_services_listed, woken}
 use Rattle.core_rules.specs.Turn.{after_turn, chosen_at, put_in, reason_in, rest_of, turn_at, turn_of, wanted_record}
 use Rattle.core_rules.specs.declared.turn.Turn.TheVariants.{NoPut, Wants}
 use Rattle.core_rules.proofs.Claims.{claims_of-kept, ended-version}
 use Rattle.core_rules.proofs.Effects.{by_effect, config-services}
 use Rattle.core_rules.proofs.Runs.{core_holds_what_was_observed}
-use Rattle.object_cache.specs.Change.{applied}
 use Rattle.core_laws.specs.Certain.{IsCertain, NewerEventsSettle, RunsAreCertain}
 use Rattle.core_laws.specs.Quiet.{is_put_of}
 use Rattle.core_laws.proofs.Awaiting.{has_key-without}
@@ -51,6 +50,7 @@ use Rattle.core_laws.proofs.QuietReplies.{PutIsChosen, apart, behind, not-out, o
 use Rattle.core_laws.proofs.QuietRuns.{gone-service, not-ready, out-chosen, seen-services}
 use Rattle.core_laws.proofs.QuietServices.{untold-same, no-out, without-other, own-there, more-by, held_service, passed-over, held-newer, tells-other}
 use Rattle.core_laws.proofs.Rows.{has_key-append}
+use Rattle.core_laws.proofs.Woken.{first-of, more-of, unready-woken, woken-there}
 
 -- ---- a newer service
 held-by : (b : Bool) (s : State) (observations : List Observation) (version : ℕ) (new : Service) (key : Key) (service : Service)
@@ -137,33 +137,21 @@ listed-certain s seen o certain key service is_set out found =
     found here.0 both.1
 
 -- ---- the configuration, and namespaces
-first-of : (b : Bool) (queue more : List Key) (key : Key) → has_key (cond b (queue ++ more) queue) key ≡ false → has_key queue key ≡ false
-first-of true queue more key out = (or_parts (has_key queue key) (has_key more key) (sym (has_key-append queue more key) ∙ out)).0
-first-of false queue more key out = out
-
-more-of : (b : Bool) (queue more : List Key) (key : Key) → b ≡ true → has_key (cond b (queue ++ more) queue) key ≡ false → has_key more key ≡ false
-more-of true queue more key e out = (or_parts (has_key queue key) (has_key more key) (sym (has_key-append queue more key) ∙ out)).1
-more-of false queue more key e out = absurd (true≢false (sym e))
-
 configured-by : (was : Bool) (s : State) (event : Event) (key : Key) (service : Service) → is_ready s.held ≡ was → s.out ≡ None → IsCertain s
     → is_ready (cached_after (Watched event) s.held) ≡ true
     → has_key (configured s event).queue key ≡ false → has_key s.awaiting key ≡ false → service_of s.held key ≡ Some service
     → claims_of key s.claims ≡ own_claims service
 configured-by true s event key service was o certain ready q a found =
+    let after = cached_after (Watched event) s.held in
     certain key service
-    (settled-from s key service was found
-    (first-of (wakes s.held (applied s.held event) (cached_after (Watched event) s.held)) s.queue (all_free s.queue s.awaiting s.held.services) key q) a)
+    (settled-from s key service was found (first-of (is_ready after) s.queue (all_free s.queue s.awaiting (woken s.held after)) key q) a)
     (no-out s key o) found
 configured-by false s event key service was o certain ready q a found =
-    let more : List Key = all_free s.queue s.awaiting s.held.services in
-    let awake : Bool = wakes s.held (applied s.held event) (cached_after (Watched event) s.held) in
-    let here : awake ≡ true = wakes-ready (is_ready (cached_after (Watched event) s.held)) (is_ready s.held) _ _ ready was in
-    absurd (free-there s.queue s.awaiting s.held.services key service found (first-of awake s.queue more key q) a (more-of awake s.queue more key here q))
-  where
-    wakes-ready : (after before accepted changed : Bool) → after ≡ true → before ≡ false → (after && ((not before || accepted) || changed)) ≡ true
-    wakes-ready true false accepted changed a b = refl
-    wakes-ready true true accepted changed a b = absurd (true≢false b)
-    wakes-ready false before accepted changed a b = absurd (true≢false (sym a))
+    let after = cached_after (Watched event) s.held in
+    let more : List Key = all_free s.queue s.awaiting (woken s.held after) in
+    absurd (free-there s.queue s.awaiting (woken s.held after) key service
+    (woken-there s.held after key service (unready-woken s.held after key was) found)
+    (first-of (is_ready after) s.queue more key q) a (more-of (is_ready after) s.queue more key ready q))
 
 configured-certain : (s : State) (event : Event) → effect_of event ≡ Configures → s.out ≡ None → IsCertain s → IsCertain (configured s event)
 configured-certain s event c o certain key service is_set out found =

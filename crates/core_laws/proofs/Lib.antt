@@ -7,6 +7,7 @@ pub mod Claimed
 pub mod Classes
 pub mod Expired
 pub mod Free
+pub mod Fresh
 pub mod Kept
 pub mod Keyed
 pub mod NoPuts
@@ -30,3 +31,4 @@ pub mod Shared
 pub mod Sound
 pub mod Telling
 pub mod Waiting
+pub mod Woken

@@ -18,18 +18,18 @@ use Rattle.object_history.specs.Kinds.{service_resource}
 use Rattle.kube_model.proofs.KeyLaws.{key_cmp-total, same_key-is}
 use Rattle.object_history.proofs.Force.{all_is_as_shown}
 use Rattle.object_history.proofs.Held.{ascending-held_after}
-use Rattle.object_cache.specs.Change.{applied}
 use Rattle.object_cache.specs.Stays.{passing}
 use Rattle.kube_model.specs.Records.{is_assigned}
 use Rattle.claim_index.specs.Claims.{loses, has_claims}
 use Rattle.core_rules.specs.Core.{State, is_ready, is_free_with, all_free, waiting, shown_terms}
 use Rattle.core_rules.specs.Keys.{own_key}
-use Rattle.core_rules.specs.Take.{core_by, core_take, no_key, is_unlisted, listed_keys, have_claims, listed_and_free, own_and_waiting, wakes}
+use Rattle.core_rules.specs.Take.{core_by, core_take, no_key, is_unlisted, listed_keys, have_claims, listed_and_free, own_and_waiting, woken}
 use Rattle.core_rules.proofs.Effects.{by_effect}
 use Rattle.core_laws.specs.Queue.{AreApart, NoneAmong}
 use Rattle.core_laws.proofs.Awaiting.{has_key-without}
 use Rattle.core_laws.proofs.QueueOnce.{AreNew, apart-append, among-append, apart-kept, kept-among, among-kept}
 use Rattle.core_laws.proofs.QueueOnce.{none-new, waiting-new, passing-apart, passing-found, free-parts}
+use Rattle.core_laws.proofs.Woken.{woken-ascend}
 
 -- The additions are in order: each key once, none queued, none awaiting.
 pub record AreAdded (more queue awaiting : List Key) : Type 0 where
@@ -155,11 +155,12 @@ listed-added true true lost s sorted =
     new-added _ s.queue s.awaiting no_key (waiting-new lost s.class no_key s.queue s.awaiting (listed s.held.services) sorted)
 listed-added false true lost s sorted = free-added s.queue s.awaiting (listed s.held.services) sorted
 
-configured-order : (b : Bool) (s : State) → IsStrictlySortedBy key_cmp (keys_of s.held.services) → IsInOrder s.queue s.awaiting
-    → IsInOrder (cond b (s.queue ++ all_free s.queue s.awaiting s.held.services) s.queue) s.awaiting
-configured-order true s sorted o =
-    added s.queue (all_free s.queue s.awaiting s.held.services) s.awaiting o (free-added s.queue s.awaiting s.held.services sorted)
-configured-order false s sorted o = o
+configured-order : (b : Bool) (s : State) (after : Cached) → IsStrictlySortedBy key_cmp (keys_of s.held.services) → IsInOrder s.queue s.awaiting
+    → IsInOrder (cond b (s.queue ++ all_free s.queue s.awaiting (woken s.held after)) s.queue) s.awaiting
+configured-order true s after sorted o =
+    added s.queue (all_free s.queue s.awaiting (woken s.held after)) s.awaiting o
+    (free-added s.queue s.awaiting (woken s.held after) (woken-ascend s.held after sorted))
+configured-order false s after sorted o = o
 
 pub empty-order : (awaiting : List Key) → IsInOrder [] awaiting
 empty-order awaiting = record { once = tt; free = λ key there. absurd (cc) }
@@ -185,6 +186,6 @@ took-order s observations e o = by_effect (λ event c. IsInOrder (core_by c s ev
     (added-fewer (is_unlisted (listed s.held.services)) s.queue _ s.awaiting
     (listed-added (is_ready s.held) (s.held.config_ended && is_some s.held.config) (have_claims s.held.services s.claims) s
     (ascending-held_after service_resource key_cmp-total (Watched (ListEnd groups.Service)) s.held.services (sorted-services s observations e)))))
-    (λ event c. configured-order (wakes s.held (applied s.held event) (cached_after (Watched event) s.held)) s (sorted-services s observations e) o)
+    (λ event c. configured-order (is_ready (cached_after (Watched event) s.held)) s (cached_after (Watched event) s.held) (sorted-services s observations e) o)
     (empty-order s.awaiting)
     (λ event. o)

@@ -21,17 +21,16 @@ use Rattle.kube_model.proofs.KeyLaws.{key_cmp-total, key_cmp-exact, same_key-is,
 use Rattle.versioned_map.specs.declared.map.Versioned.{Versioned}
 use Rattle.versioned_map.specs.Objects.{held_at, object_at, version_at, is_newer, listed, shown}
 use Rattle.versioned_map.proofs.HeldLaws.{held_at-shown}
-use Rattle.object_history.specs.Cache.{cached_after, held_after}
+use Rattle.object_history.specs.Cache.{Cached, cached_after, held_after}
 use Rattle.object_history.specs.Observations.{Observation, Watched, WatchExpired, Written}
 use Rattle.object_history.specs.Kinds.{service_resource}
 use Rattle.object_history.specs.LookBack.{deletes_key, ends_list, held_on, newer_than, object_in, version_of}
 use Rattle.object_history.proofs.Held.{held_at-held_after, ascending-held_after}
-use Rattle.object_cache.specs.Change.{applied}
 use Rattle.object_cache.specs.Stays.{passing}
 use Rattle.claim_index.specs.Claims.{loses, has_claims}
 use Rattle.core_rules.specs.Core.{State, is_ready, is_free_with, all_free, waits, waiting, shown_terms}
 use Rattle.core_rules.specs.Keys.{own_key}
-use Rattle.core_rules.specs.Take.{core_by, core_take, no_key, is_unlisted, listed_keys, have_claims, listed_and_free, own_and_waiting, wakes, shows}
+use Rattle.core_rules.specs.Take.{core_by, core_take, no_key, is_unlisted, listed_keys, have_claims, listed_and_free, own_and_waiting, woken, shows}
 use Rattle.core_rules.specs.Turn.{turn_of, rest_of, put_in}
 use Rattle.core_rules.specs.Replied.{replied_to, put_terms}
 use Rattle.core_rules.specs.Run.{TranscriptEntry, Took, Expired, Turned, Heard, core_after, IsRun, observed}
@@ -46,6 +45,7 @@ use Rattle.core_laws.proofs.Puts.{IsWanted, wanted-of}
 use Rattle.core_laws.proofs.QuietRuns.{wants-some, none-some}
 use Rattle.core_laws.proofs.Ready.{runs-idle}
 use Rattle.core_laws.proofs.Rows.{has_key-append}
+use Rattle.core_laws.proofs.Woken.{woken-ascend, woken-held}
 
 -- the key is held in the entries
 abbrev IsIn : List (Key × Versioned Service) → Key → Type 0
@@ -190,11 +190,12 @@ more-in was false lost s sorted = none-in (listed s.held.services)
 more-in true true lost s sorted = waiting-in lost s.class no_key s.queue s.awaiting (listed s.held.services) sorted
 more-in false true lost s sorted = free-in s.queue s.awaiting (listed s.held.services) sorted
 
-configured-in : (b : Bool) (s : State) → IsStrictlySortedBy key_cmp (keys_of s.held.services) → AllIn s.held.services s.queue
-    → AllIn s.held.services (cond b (s.queue ++ all_free s.queue s.awaiting s.held.services) s.queue)
-configured-in true s sorted all =
-    append-in s.held.services s.queue (all_free s.queue s.awaiting s.held.services) all (free-in s.queue s.awaiting s.held.services sorted)
-configured-in false s sorted all = all
+configured-in : (b : Bool) (s : State) (after : Cached) → IsStrictlySortedBy key_cmp (keys_of s.held.services) → AllIn s.held.services s.queue
+    → AllIn s.held.services (cond b (s.queue ++ all_free s.queue s.awaiting (woken s.held after)) s.queue)
+configured-in true s after sorted all =
+    append-in s.held.services s.queue (all_free s.queue s.awaiting (woken s.held after)) all
+    (λ key there. woken-held s.held after key (free-in s.queue s.awaiting (woken s.held after) (woken-ascend s.held after sorted) key there))
+configured-in false s after sorted all = all
 
 took-in : (s : State) → IsStrictlySortedBy key_cmp (keys_of s.held.services) → AllIn s.held.services s.queue → (event : Event)
     → AllIn (core_take s event).held.services (core_take s event).queue
@@ -208,8 +209,9 @@ took-in s sorted all = by_effect (λ event c. AllIn (core_by c s event).held.ser
     (more-in (is_ready s.held) (s.held.config_ended && is_some s.held.config) (have_claims s.held.services s.claims) s
     (ascending-held_after service_resource key_cmp-total (Watched (ListEnd groups.Service)) s.held.services sorted)))
     (λ event c. subst (λ (services : List (Key × Versioned Service)). AllIn services
-    (cond (wakes s.held (applied s.held event) (cached_after (Watched event) s.held)) (s.queue ++ all_free s.queue s.awaiting s.held.services) s.queue))
-    (sym (config-services event s.held c)) (configured-in (wakes s.held (applied s.held event) (cached_after (Watched event) s.held)) s sorted all))
+    (cond (is_ready (cached_after (Watched event) s.held)) (s.queue ++ all_free s.queue s.awaiting (woken s.held (cached_after (Watched event) s.held))) s.queue))
+    (sym (config-services event s.held c))
+    (configured-in (is_ready (cached_after (Watched event) s.held)) s (cached_after (Watched event) s.held) sorted all))
     (λ key there. absurd (cc))
     (λ event. all)
 

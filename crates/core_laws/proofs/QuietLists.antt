@@ -1,6 +1,6 @@
 -- After the end of a list, or a change of the configuration or of a namespace, the settled services meet their rows.
 use Rattle.std.proofs.Common.{arith, ◌≡◌, ℕ, Bool, true, false, cond, leb, eqb, not, ◌&&◌, ◌||◌, List, [], ◌∷◌, ◌++◌, filter, Option}
-use Rattle.std.proofs.Common.{Some, None, is_some, Result, Ok, Err, Ordering, Less, Equal, Greater, option_map, refl, sym, ap, ◌∙◌}
+use Rattle.std.proofs.Common.{Some, None, is_some, Result, Ok, Err, Ordering, Less, Equal, Greater, option_map, refl, sym, ap, subst, ◌∙◌}
 use Rattle.std.proofs.lemmas.Bool.{true≢false, and_parts, and_from, or_parts}
 use Rattle.std.proofs.lemmas.Bool.Decides.{nat_tests}
 use Rattle.std.specs.Ordering.{match_ordering}
@@ -41,7 +41,7 @@ use Rattle.alloc_book.proofs.PendingLaws.{more-tighter}
 use Rattle.kube_model.proofs.KeyLaws.{same_key-is}
 use Rattle.core_rules.specs.Core.{State, is_ready, service_of, offer_in, is_free_with, all_free}
 use Rattle.core_rules.specs.Take.{Configures, effect_of, no_key, is_unlisted, listed_keys, listed_claims}
-use Rattle.core_rules.specs.Take.{have_claims, listed_and_free, with_services_listed, is_accepted, wakes, configured}
+use Rattle.core_rules.specs.Take.{have_claims, listed_and_free, with_services_listed, is_woken, woken, configured}
 use Rattle.core_rules.proofs.Claims.{ended-version}
 use Rattle.core_rules.proofs.Effects.{config-services}
 use Rattle.core_laws.specs.Quiet.{MeetsRow, IsQuiet}
@@ -49,6 +49,7 @@ use Rattle.core_laws.proofs.Rows.{has_key-append, passing-has, row-on}
 use Rattle.core_laws.proofs.Quiet.{settled-parts, settled-from, waits-queued, row-handled, row-empty}
 use Rattle.core_laws.proofs.QuietReplies.{not-lost}
 use Rattle.core_laws.proofs.QuietServices.{no-out}
+use Rattle.core_laws.proofs.Woken.{IsSameFor, first-of, more-of, not-woken, same-offer, woken-there}
 
 -- ---- every free key is queued
 free-by : (b : Bool) (queue awaiting : List Key) (key : Key) (service : Service) → b ≡ is_assigned service.holding → has_key queue key ≡ false
@@ -132,7 +133,7 @@ module _ (s : State) (seen : (key : Key)
   listed-by false true key service w n q a found before out = absurd (free-there s.queue s.awaiting (listed s.held.services) key service found q a out)
   listed-by true true key service w n q a found before out =
       let row = quiet key service (settled-from s key service (sym w) before q a) (no-out s key o) before in
-      row-on s.class s.held (with_services_listed s).held (holders s.claims) (holders (listed_claims (listed s.held.services) s.claims)) service row (λ x. refl)
+      row-on s.class s.held (with_services_listed s).held (holders s.claims) (holders (listed_claims (listed s.held.services) s.claims)) service row refl
       (λ reason is. listed-tighter
       (not-lost (have_claims s.held.services s.claims) s.class no_key s.queue s.awaiting (listed s.held.services) key out
       (waits-queued s.class no_key s.queue s.awaiting (listed s.held.services) key service found refl q a
@@ -154,218 +155,30 @@ module _ (s : State) (seen : (key : Key)
       found here.0 both.1
 
 -- ---- the configuration, and namespaces
-kept-config : (b : Bool) (r : Result ConfigValue ConfigFault) (c : Option ConfigValue) → is_accepted (cond b (note_in r) QuietNote) ≡ false
-    → cond b (in_force c r) c ≡ c
-kept-config true (Ok config) c e = absurd (cc)
-kept-config true (Err fault) c e = refl
-kept-config false r c e = refl
-
-config-kept : (event : Event) (s : Cached) → effect_of event ≡ Configures → is_accepted (applied s event).note ≡ false
-    → (cached_after (Watched event) s).config ≡ s.config
-config-kept (Changed version (objects.Service service)) s c e = absurd (cc)
-config-kept (Changed version (objects.Pool pool)) s c e =
-    kept-config _ (compiled (objects_after (Watched (Changed version (objects.Pool pool))) s.objects)) s.config e
-config-kept (Changed version (objects.L2 adv)) s c e =
-    kept-config _ (compiled (objects_after (Watched (Changed version (objects.L2 adv))) s.objects)) s.config e
-config-kept (Changed version (objects.Bgp adv)) s c e =
-    kept-config _ (compiled (objects_after (Watched (Changed version (objects.Bgp adv))) s.objects)) s.config e
-config-kept (Changed version (objects.Peer peer)) s c e =
-    kept-config _ (compiled (objects_after (Watched (Changed version (objects.Peer peer))) s.objects)) s.config e
-config-kept (Changed version (objects.Community community)) s c e =
-    kept-config _ (compiled (objects_after (Watched (Changed version (objects.Community community))) s.objects)) s.config e
-config-kept (Changed version (objects.Namespace namespace)) s c e = refl
-config-kept (Changed version (objects.Node node)) s c e = absurd (cc)
-config-kept (Changed version (objects.Slice slice)) s c e = absurd (cc)
-config-kept (Deleted kinds.Service key) s c e = absurd (cc)
-config-kept (Deleted kinds.Pool key) s c e = kept-config _ (compiled (objects_after (Watched (Deleted kinds.Pool key)) s.objects)) s.config e
-config-kept (Deleted kinds.L2 key) s c e = kept-config _ (compiled (objects_after (Watched (Deleted kinds.L2 key)) s.objects)) s.config e
-config-kept (Deleted kinds.Bgp key) s c e = kept-config _ (compiled (objects_after (Watched (Deleted kinds.Bgp key)) s.objects)) s.config e
-config-kept (Deleted kinds.Peer key) s c e = kept-config _ (compiled (objects_after (Watched (Deleted kinds.Peer key)) s.objects)) s.config e
-config-kept (Deleted kinds.Community key) s c e = kept-config _ (compiled (objects_after (Watched (Deleted kinds.Community key)) s.objects)) s.config e
-config-kept (Deleted kinds.Namespace key) s c e = refl
-config-kept (Deleted kinds.Node key) s c e = absurd (cc)
-config-kept (Deleted kinds.Slice key) s c e = absurd (cc)
-config-kept (ListEnd groups.Service) s c e = absurd (cc)
-config-kept (ListEnd groups.Config) s c e = kept-config true (compiled (objects_after (Watched (ListEnd groups.Config)) s.objects)) s.config e
-config-kept (ListEnd groups.Endpoint) s c e = absurd (cc)
-config-kept Expired s c e = absurd (cc)
-config-kept (Members names) s c e = absurd (cc)
-config-kept (Frame interface bytes) s c e = absurd (cc)
-config-kept Ignored s c e = absurd (cc)
-
-abbrev Namespaces : Type 0
-Namespaces = List (List ℕ × Versioned Namespace)
-
-kept-shown : (old : Bool) (es : Namespaces) (v : Versioned Namespace) (name : List ℕ) → not old ≡ false → cond old es (insert_entry name_cmp es name v) ≡ es
-kept-shown true es v name e = refl
-kept-shown false es v name e = absurd (cc)
-
-namespaces-kept : (event : Event) (s : Cached) → effect_of event ≡ Configures → listed s.namespaces ≡ s.namespaces → (applied s event).namespace_changed ≡ false
-    → (cached_after (Watched event) s).namespaces ≡ s.namespaces
-namespaces-kept (Changed version (objects.Service service)) s c l e = absurd (cc)
-namespaces-kept (Changed version (objects.Pool pool)) s c l e = refl
-namespaces-kept (Changed version (objects.L2 adv)) s c l e = refl
-namespaces-kept (Changed version (objects.Bgp adv)) s c l e = refl
-namespaces-kept (Changed version (objects.Peer peer)) s c l e = refl
-namespaces-kept (Changed version (objects.Community community)) s c l e = refl
-namespaces-kept (Changed version (objects.Namespace namespace)) s c l e =
-    kept-shown (leb version (version_at name_cmp s.namespaces namespace.name)) s.namespaces (record { version = version; object = namespace }) namespace.name e
-namespaces-kept (Changed version (objects.Node node)) s c l e = absurd (cc)
-namespaces-kept (Changed version (objects.Slice slice)) s c l e = absurd (cc)
-namespaces-kept (Deleted kinds.Service key) s c l e = absurd (cc)
-namespaces-kept (Deleted kinds.Pool key) s c l e = refl
-namespaces-kept (Deleted kinds.L2 key) s c l e = refl
-namespaces-kept (Deleted kinds.Bgp key) s c l e = refl
-namespaces-kept (Deleted kinds.Peer key) s c l e = refl
-namespaces-kept (Deleted kinds.Community key) s c l e = refl
-namespaces-kept (Deleted kinds.Namespace key) s c l e = absurd (cc)
-namespaces-kept (Deleted kinds.Node key) s c l e = absurd (cc)
-namespaces-kept (Deleted kinds.Slice key) s c l e = absurd (cc)
-namespaces-kept (ListEnd groups.Service) s c l e = absurd (cc)
-namespaces-kept (ListEnd groups.Config) s c l e = l
-namespaces-kept (ListEnd groups.Endpoint) s c l e = absurd (cc)
-namespaces-kept Expired s c l e = absurd (cc)
-namespaces-kept (Members names) s c l e = absurd (cc)
-namespaces-kept (Frame interface bytes) s c l e = absurd (cc)
-namespaces-kept Ignored s c l e = absurd (cc)
-
--- ready before, and neither accepted nor a namespace, where nothing wakes
-not-woken : (after before accepted namespace : Bool) → after ≡ true → (after && ((not before || accepted) || namespace)) ≡ false
-    → (before ≡ true) × (accepted ≡ false) × (namespace ≡ false)
-not-woken true true false false r e = (refl, refl, refl)
-not-woken true true true namespace r e = absurd (cc)
-not-woken true true false true r e = absurd (cc)
-not-woken true false accepted namespace r e = absurd (cc)
-not-woken false before accepted namespace r e = absurd (cc)
-
-ended-by : (a b c : Bool) → (a && b && c) ≡ true → a ≡ true
-ended-by true b c e = refl
-ended-by false b c e = absurd (cc)
-
-offer-same : (held held' : Cached) → held.config ≡ held'.config → held.namespaces ≡ held'.namespaces → (x : Service) → offer_in held x ≡ offer_in held' x
-offer-same held held' c n x =
-    ap (λ (config : Option ConfigValue). offer_in (record held { config = config }) x) c
-    ∙ ap (λ (namespaces : Namespaces). offer_in (record held { config = held'.config; namespaces = namespaces }) x) n
-
-woken-by : (b : Bool) (s : State) (event : Event) (key : Key) (service : Service)
-    → b ≡ wakes s.held (applied s.held event) (cached_after (Watched event) s.held) → effect_of event ≡ Configures
-    → (s.held.config_ended ≡ true → listed s.held.namespaces ≡ s.held.namespaces) → s.out ≡ None → IsQuiet s
-    → is_ready (cached_after (Watched event) s.held) ≡ true → has_key (cond b (s.queue ++ all_free s.queue s.awaiting s.held.services) s.queue) key ≡ false
-    → has_key s.awaiting key ≡ false
-    → service_of s.held key ≡ Some service
+configured-by : (b : Bool) (s : State) (event : Event) (key : Key) (service : Service) → b ≡ is_woken s.held (cached_after (Watched event) s.held) key
+    → s.out ≡ None → IsQuiet s
+    → is_ready (cached_after (Watched event) s.held) ≡ true → has_key (configured s event).queue key ≡ false → has_key s.awaiting key ≡ false
+    → service_of s.held key ≡ Some service → service.key ≡ key
     → MeetsRow s.class (offer_in (cached_after (Watched event) s.held)) (holders s.claims) service
-woken-by true s event key service b c fresh o quiet ready q a found =
-    let both = or_parts _ _ (sym (has_key-append s.queue (all_free s.queue s.awaiting s.held.services) key) ∙ q) in
-    absurd (free-there s.queue s.awaiting s.held.services key service found both.0 a both.1)
-woken-by false s event key service b c fresh o quiet ready q a found =
-    let rest = not-woken (is_ready (cached_after (Watched event) s.held)) (is_ready s.held) (is_accepted (applied s.held event).note)
-    (applied s.held event).namespace_changed ready (sym b) in
-    let ended : s.held.config_ended ≡ true = ended-by s.held.config_ended s.held.services_ended (is_some s.held.config) rest.0 in
-    let row = quiet key service (settled-from s key service rest.0 found q a) (no-out s key o) found in
-    row-on s.class s.held (cached_after (Watched event) s.held) (holders s.claims) (holders s.claims) service row
-    (offer-same s.held (cached_after (Watched event) s.held) (sym (config-kept event s.held c rest.1))
-    (sym (namespaces-kept event s.held c (fresh ended) rest.2)))
+configured-by true s event key service b o quiet ready q a found own =
+    let after = cached_after (Watched event) s.held in
+    let more = all_free s.queue s.awaiting (woken s.held after) in
+    absurd (free-there s.queue s.awaiting (woken s.held after) key service (woken-there s.held after key service (sym b) found)
+    (first-of (is_ready after) s.queue more key q) a (more-of (is_ready after) s.queue more key ready q))
+configured-by false s event key service b o quiet ready q a found own =
+    let after = cached_after (Watched event) s.held in
+    let same = not-woken s.held after key (sym b) in
+    let queue = first-of (is_ready after) s.queue (all_free s.queue s.awaiting (woken s.held after)) key q in
+    let row = quiet key service (settled-from s key service same.0 found queue a) (no-out s key o) found in
+    row-on s.class s.held after (holders s.claims) (holders s.claims) service row
+    (same-offer s.held after row.before (subst (IsSameFor s.held after) (sym own ∙ ap (λ (x : Service). x.key) row.only_record) same))
     (λ reason is at left. left)
 
-pub configured-quiet : (s : State) (event : Event) → effect_of event ≡ Configures → (s.held.config_ended ≡ true → listed s.held.namespaces ≡ s.held.namespaces)
+pub configured-quiet : (s : State) (event : Event) → effect_of event ≡ Configures
+    → ((key : Key) (service : Service) → service_of s.held key ≡ Some service → service.key ≡ key)
     → s.out ≡ None → IsQuiet s → IsQuiet (configured s event)
-configured-quiet s event c fresh o quiet key service is_set out found =
+configured-quiet s event c own o quiet key service is_set out found =
     let parts = settled-parts (configured s event) key is_set in
-    woken-by (wakes s.held (applied s.held event) (cached_after (Watched event) s.held)) s event key service refl c fresh o quiet parts.0 parts.1 parts.2
-    (ap (λ (es : List (Key × Versioned Service)). object_at key_cmp es key) (sym (config-services event s.held c)) ∙ found)
-
--- ---- while the list has ended no namespace is at version 0
-listed-all-by : (b : Bool) (e : List ℕ × Versioned Namespace) (es : Namespaces) → (b && list_all is_listed es) ≡ true
-    → (list_all is_listed es ≡ true → listed es ≡ es) → cond b (e ∷ listed es) (listed es) ≡ e ∷ es
-listed-all-by true e es all ih = ap (λ (xs : Namespaces). e ∷ xs) (ih all)
-listed-all-by false e es all ih = absurd (cc)
-
-listed-all : (es : Namespaces) → list_all is_listed es ≡ true → listed es ≡ es
-listed-all [] all = refl
-listed-all (e ∷ es) all = listed-all-by (is_listed e) e es all (listed-all es)
-
-all-listed-by : (b : Bool) (e : List ℕ × Versioned Namespace) (es : Namespaces) → b ≡ is_listed e → list_all is_listed es ≡ true
-    → list_all is_listed (cond b (e ∷ es) es) ≡ true
-all-listed-by true e es b ih = rw (← b) ih
-all-listed-by false e es b ih = ih
-
-all-listed : (es : Namespaces) → list_all is_listed (listed es) ≡ true
-all-listed [] = refl
-all-listed (e ∷ es) = all-listed-by (is_listed e) e (listed es) refl (all-listed es)
-
-all-inserted-by : (r : Ordering) (e : List ℕ × Versioned Namespace) (es more : Namespaces) (k : List ℕ) (v : Versioned Namespace) → not (eqb v.version 0) ≡ true
-    → is_listed e ≡ true → list_all is_listed es ≡ true → list_all is_listed more ≡ true
-    → list_all is_listed (match_ordering r ((k, v) ∷ e ∷ es) ((e.0, v) ∷ es) (e ∷ more)) ≡ true
-all-inserted-by Less e es more k v new first rest ih = and_from (not (eqb v.version 0)) _ new (and_from (is_listed e) (list_all is_listed es) first rest)
-all-inserted-by Equal e es more k v new first rest ih = and_from (not (eqb v.version 0)) (list_all is_listed es) new rest
-all-inserted-by Greater e es more k v new first rest ih = and_from (is_listed e) (list_all is_listed more) first ih
-
-all-inserted : (es : Namespaces) (k : List ℕ) (v : Versioned Namespace) → not (eqb v.version 0) ≡ true → list_all is_listed es ≡ true
-    → list_all is_listed (insert_entry name_cmp es k v) ≡ true
-all-inserted [] k v new all = and_from (not (eqb v.version 0)) true new refl
-all-inserted (e ∷ es) k v new all =
-    let parts = and_parts (is_listed e) (list_all is_listed es) all in
-    all-inserted-by (name_cmp k e.0) e es (insert_entry name_cmp es k v) k v new parts.0 parts.1 (all-inserted es k v new parts.1)
-
-all-removed-by : (b : Bool) (e : List ℕ × Versioned Namespace) (es less : Namespaces) → is_listed e ≡ true → list_all is_listed es ≡ true
-    → list_all is_listed less ≡ true → list_all is_listed (cond b es (e ∷ less)) ≡ true
-all-removed-by true e es less first rest ih = rest
-all-removed-by false e es less first rest ih = and_from (is_listed e) (list_all is_listed less) first ih
-
-all-removed : (test : List ℕ → Bool) (es : Namespaces) → list_all is_listed es ≡ true → list_all is_listed (remove_entry test es) ≡ true
-all-removed test [] all = refl
-all-removed test (e ∷ es) all =
-    let parts = and_parts (is_listed e) (list_all is_listed es) all in
-    all-removed-by (test e.0) e es (remove_entry test es) parts.0 parts.1 (all-removed test es parts.1)
-
-newer-positive : (version held : ℕ) → leb version held ≡ false → not (eqb version 0) ≡ true
-newer-positive version held e = grind (arith, nat_tests)
-
-all-shown : (old : Bool) (es : Namespaces) (version : ℕ) (namespace : Namespace) → old ≡ leb version (version_at name_cmp es namespace.name)
-    → list_all is_listed es ≡ true
-    → list_all is_listed (cond old es (insert_entry name_cmp es namespace.name (record { version = version; object = namespace }))) ≡ true
-all-shown true es version namespace old all = all
-all-shown false es version namespace old all =
-    all-inserted es namespace.name (record { version = version; object = namespace }) (newer-positive version (version_at name_cmp es namespace.name) (sym old))
-    all
-
-fresh-after : (h : Observation) (es : Namespaces) (ended : Bool) → (ended ≡ true → list_all is_listed es ≡ true) → ended_after groups.Config h ended ≡ true
-    → list_all is_listed (held_after namespace_resource h es) ≡ true
-fresh-after (Watched (Changed version (objects.Service service))) es ended f e = f e
-fresh-after (Watched (Changed version (objects.Pool pool))) es ended f e = f e
-fresh-after (Watched (Changed version (objects.L2 adv))) es ended f e = f e
-fresh-after (Watched (Changed version (objects.Bgp adv))) es ended f e = f e
-fresh-after (Watched (Changed version (objects.Peer peer))) es ended f e = f e
-fresh-after (Watched (Changed version (objects.Community community))) es ended f e = f e
-fresh-after (Watched (Changed version (objects.Namespace namespace))) es ended f e =
-    all-shown (leb version (version_at name_cmp es namespace.name)) es version namespace refl (f e)
-fresh-after (Watched (Changed version (objects.Node node))) es ended f e = f e
-fresh-after (Watched (Changed version (objects.Slice slice))) es ended f e = f e
-fresh-after (Watched (Deleted kinds.Service key)) es ended f e = f e
-fresh-after (Watched (Deleted kinds.Pool key)) es ended f e = f e
-fresh-after (Watched (Deleted kinds.L2 key)) es ended f e = f e
-fresh-after (Watched (Deleted kinds.Bgp key)) es ended f e = f e
-fresh-after (Watched (Deleted kinds.Peer key)) es ended f e = f e
-fresh-after (Watched (Deleted kinds.Community key)) es ended f e = f e
-fresh-after (Watched (Deleted kinds.Namespace key)) es ended f e = all-removed (is_at (name_cmp key.name)) es (f e)
-fresh-after (Watched (Deleted kinds.Node key)) es ended f e = f e
-fresh-after (Watched (Deleted kinds.Slice key)) es ended f e = f e
-fresh-after (Watched (ListEnd groups.Service)) es ended f e = f e
-fresh-after (Watched (ListEnd groups.Config)) es ended f e = all-listed es
-fresh-after (Watched (ListEnd groups.Endpoint)) es ended f e = f e
-fresh-after (Watched Expired) es ended f e = absurd (cc)
-fresh-after (Watched (Members names)) es ended f e = f e
-fresh-after (Watched (Frame interface bytes)) es ended f e = f e
-fresh-after (Watched Ignored) es ended f e = f e
-fresh-after (WatchExpired groups.Config) es ended f e = absurd (cc)
-fresh-after (WatchExpired groups.Service) es ended f e = f e
-fresh-after (WatchExpired groups.Endpoint) es ended f e = f e
-fresh-after (Written key version holding) es ended f e = f e
-
-all-fresh : (observations : List Observation) → (cached observations).config_ended ≡ true → list_all is_listed (cached observations).namespaces ≡ true
-all-fresh [] e = absurd (cc)
-all-fresh (h ∷ earlier) e = fresh-after h (cached earlier).namespaces (cached earlier).config_ended (all-fresh earlier) e
-
-pub fresh : (observations : List Observation) → (cached observations).config_ended ≡ true
-    → listed (cached observations).namespaces ≡ (cached observations).namespaces
-fresh observations e = listed-all (cached observations).namespaces (all-fresh observations e)
+    let before = ap (λ (es : List (Key × Versioned Service)). object_at key_cmp es key) (sym (config-services event s.held c)) ∙ found in
+    configured-by (is_woken s.held (cached_after (Watched event) s.held) key) s event key service refl o quiet parts.0 parts.1 parts.2 before
+    (own key service before)

@@ -65,7 +65,7 @@ doubt-quiet s put o quiet key service settled out found =
     let parts = settled-parts (in_doubt s put) key settled in
     let apart = behind s.queue put.key key parts.1 in
     let row = quiet key service (settled-from s key service parts.0 found apart.0 parts.2) (not-out s put key o apart.1) found in
-    row-on s.class s.held s.held (holders s.claims) (holders (doubted put.key put.holding (put_terms s.held put) s.claims)) service row (λ x. refl)
+    row-on s.class s.held s.held (holders s.claims) (holders (doubted put.key put.holding (put_terms s.held put) s.claims)) service row refl
     (λ reason is. more-tighter row.before.key (asker_of row.before).terms (holders s.claims) (holders
     (doubted put.key put.holding (put_terms s.held put) s.claims)) (doubted-more s.claims put.key row.before.key put.holding (put_terms s.held put)))
 
@@ -175,7 +175,7 @@ stored-by false s put version key service b o quiet chosen a is_set found =
     (waiting (loses put.key put.holding (put_terms s.held put) s.claims) s.class (same_key put.key) s.queue s.awaiting s.held.services) key) ∙ parts.1) in
     let row = quiet key service (settled-from s key service parts.0 before queues.0 parts.2) (not-out s put key o apart_key) before in
     row-on s.class s.held (stored s put version).held (holders s.claims) (holders (settled put.key put.holding (put_terms s.held put) s.claims)) service row
-    (λ x. refl)
+    refl
     (λ reason is. settled-tighter s.claims put.key put.holding (put_terms s.held put) a
     (not-lost (loses put.key put.holding (put_terms s.held put) s.claims) s.class (same_key put.key) s.queue s.awaiting s.held.services key queues.1
     (waits-queued s.class (same_key put.key) s.queue s.awaiting s.held.services key service before apart_key queues.0 parts.2

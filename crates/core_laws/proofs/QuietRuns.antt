@@ -37,7 +37,7 @@ use Rattle.core_laws.proofs.Keyed.{service-key}
 use Rattle.core_laws.proofs.Puts.{IsWanted, wanted-of}
 use Rattle.core_laws.proofs.Rows.{row-on}
 use Rattle.core_laws.proofs.Quiet.{settled-parts, turned-quiet}
-use Rattle.core_laws.proofs.QuietLists.{fresh, listed-quiet, configured-quiet}
+use Rattle.core_laws.proofs.QuietLists.{listed-quiet, configured-quiet}
 use Rattle.core_laws.proofs.QuietReplies.{PutIsChosen, heard-quiet}
 use Rattle.core_laws.proofs.QuietServices.{shown-quiet, dropped-quiet}
 
@@ -59,14 +59,15 @@ gone-service s observations e gone key same =
     ∙ gone-by (is_eq (key_cmp gone key)) _ same
 
 -- ---- events
-took-quiet : (s : State) (observations : List Observation) → s.held ≡ cached observations → s.out ≡ None → IsQuiet s → AreAssigned s.claims → (event : Event)
+took-quiet : (s : State) (observations : List Observation) → s.held ≡ cached observations
+    → ((key : Key) (service : Service) → service_of s.held key ≡ Some service → service.key ≡ key)
+    → s.out ≡ None → IsQuiet s → AreAssigned s.claims → (event : Event)
     → IsQuiet (core_take s event)
-took-quiet s observations e o quiet a = by_effect (λ event c. IsQuiet (core_by c s event))
+took-quiet s observations e own o quiet a = by_effect (λ event c. IsQuiet (core_by c s event))
     (λ version service. shown-quiet s observations version service e o quiet a)
     (λ key. dropped-quiet s observations key e (gone-service s observations e key) o quiet)
     (listed-quiet s (seen-services s observations e (Watched (ListEnd groups.Service))) o quiet)
-    (λ event c. configured-quiet s event c
-    (subst (λ (held : Cached). held.config_ended ≡ true → listed held.namespaces ≡ held.namespaces) (sym e) (fresh observations)) o quiet)
+    (λ event c. configured-quiet s event c own o quiet)
     (λ key service is_set out found. let parts = settled-parts (core_by Expires s ExpiredEvent) key is_set in absurd (cc))
     (λ event. quiet)
 
@@ -86,7 +87,7 @@ expired-quiet s groups.Endpoint quiet key service is_set out found =
     let parts = settled-parts (core_expired s groups.Endpoint) key is_set in
     let queue : (cond (is_ready s.held) s.queue []) ≡ s.queue = ap (λ b. cond b s.queue []) parts.0 in
     row-on s.class s.held (core_expired s groups.Endpoint).held (holders s.claims) (holders s.claims) service
-    (quiet key service (subst (λ (q : List Key). is_settled (record s { queue = q }) key ≡ true) queue is_set) out found) (λ x. refl)
+    (quiet key service (subst (λ (q : List Key). is_settled (record s { queue = q }) key ≡ true) queue is_set) out found) refl
     (λ reason is at left. left)
 
 -- ---- the put in flight is what is chosen
@@ -131,8 +132,8 @@ out-chosen class (Heard reply ∷ earlier) is put e =
 pub runs_are_quiet : RunsAreQuiet
 runs_are_quiet class [] is = λ key service is_set out found. absurd (cc)
 runs_are_quiet class (Took event ∷ earlier) is =
-    took-quiet (core_after class earlier) (observed earlier) (core_holds_what_was_observed class earlier is.1).0 is.0 (runs_are_quiet class earlier is.1)
-    (runs-assigned class earlier) event
+    took-quiet (core_after class earlier) (observed earlier) (core_holds_what_was_observed class earlier is.1).0 (service-key class earlier is.1) is.0
+    (runs_are_quiet class earlier is.1) (runs-assigned class earlier) event
 runs_are_quiet class (Expired group ∷ earlier) is = expired-quiet (core_after class earlier) group (runs_are_quiet class earlier is.1)
 runs_are_quiet class (Turned turn ∷ earlier) is = turned-quiet (core_after class earlier) is.0.0 (runs_are_quiet class earlier is.1)
 runs_are_quiet class (Heard reply ∷ earlier) is =

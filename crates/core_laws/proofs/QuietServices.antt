@@ -117,7 +117,7 @@ held-by false s observations version new key service b e newer o quiet a is_set 
     let free : has_key s.awaiting key ≡ false = sym (without-other new.key key s.awaiting apart_key) ∙ parts.2 in
     let row = quiet key service (settled-from s key service parts.0 before queues.0 free) (no-out s key o) before in
     row-on s.class s.held (held_service s version new).held (holders s.claims) (holders (settled new.key new.holding (shown_terms new) s.claims)) service row
-    (λ x. refl)
+    refl
     (λ reason is. settled-tighter s.claims new.key new.holding (shown_terms new) a
     (not-lost (loses new.key new.holding (shown_terms new) s.claims) s.class (same_key new.key) s.queue s.awaiting s.held.services key queues.1
     (waits-queued s.class (same_key new.key) s.queue s.awaiting s.held.services key service before apart_key queues.0 free
@@ -171,7 +171,7 @@ dropped-by false s observations gone key service b e none o quiet is_set found =
     let queue : has_key s.queue key ≡ false = sym (without-other gone key s.queue apart_key) ∙ both.0 in
     let free : has_key s.awaiting key ≡ false = sym (without-other gone key s.awaiting apart_key) ∙ parts.2 in
     let row = quiet key service (settled-from s key service parts.0 before queue free) (no-out s key o) before in
-    row-on s.class s.held (without_service s gone).held (holders s.claims) (holders (others gone s.claims)) service row (λ x. refl)
+    row-on s.class s.held (without_service s gone).held (holders s.claims) (holders (others gone s.claims)) service row refl
     (λ reason is. others-tighter s.claims gone
     (and-second (is_ready s.held) (has_claims gone s.claims) parts.0
     (not-lost (is_ready s.held && has_claims gone s.claims) s.class (same_key gone) s.queue s.awaiting s.held.services key both.1

@@ -66,7 +66,7 @@ handled-by false same one two = absurd (two refl)
 
 -- ---- a row goes on
 pub row-on : (class : Option (List ℕ)) (held held' : Cached) (has has' : Holders) (service : Service) (row : MeetsRow class (offer_in held) has service)
-    → ((x : Service) → offer_in held x ≡ offer_in held' x)
+    → offer_in held row.before ≡ offer_in held' row.before
     → ((reason : Reason) → row.choice ≡ Pending reason → IsTighter row.before.key (asker_of row.before).terms has has')
     → MeetsRow class (offer_in held') has' service
 row-on class held held' has has' service row same tighter =
@@ -75,8 +75,8 @@ row-on class held held' has has' service row same tighter =
       only_record = row.only_record;
       chosen_by = row.chosen_by;
       choice = row.choice;
-      chosen = subst (λ (o : Offer). IsChosen row.chosen_by o class row.before row.choice) (same row.before) row.chosen;
+      chosen = subst (λ (o : Offer). IsChosen row.chosen_by o class row.before row.choice) same row.chosen;
       holding_is = row.holding_is;
-      pending_now = λ reason is. subst (λ (o : Offer). IsChosen has' o class row.before (Pending reason)) (same row.before)
+      pending_now = λ reason is. subst (λ (o : Offer). IsChosen has' o class row.before (Pending reason)) same
           (pending_for-stays has has' (offer_in held row.before) (asker_of row.before) (tighter reason is) class row.before reason (row.pending_now reason is));
     }

@@ -10,9 +10,9 @@ use Rattle.versioned_map.specs.declared.map.Versioned.{Versioned}
 use Rattle.versioned_map.specs.Objects.{object_at}
 use Rattle.pool_config.specs.ConfigValue.{ConfigValue}
 use Rattle.pool_config.specs.declared.compiled.CompiledPool.{CompiledPool}
-use Rattle.kube_labels.specs.Names.{name_cmp}
 use Rattle.object_history.specs.Cache.{Cached, nothing}
 use Rattle.kube_model.specs.Keys.{key_cmp}
+pub use Rattle.object_cache.specs.Labels.{labels_of}
 use Rattle.object_cache.specs.Stays.{passing}
 use Rattle.alloc_book.specs.Asking.{Offer, offer_of}
 use Rattle.sharing_terms.specs.declared.terms.Terms.{Terms}
@@ -73,10 +73,6 @@ is_settled s key = is_ready s.held && is_some (service_of s.held key) && is_free
 abbrev pub pools_in : Option ConfigValue → List CompiledPool
 pools_in None = []
 pools_in (Some config) = config.pools
-
--- the labels of the namespace; one that isn't held has none
-abbrev pub labels_of : Cached → List ℕ → List (List ℕ × List ℕ)
-labels_of held name = option_map_or (λ n. n.labels) (object_at name_cmp held.namespaces name) []
 
 -- what there is for the service
 abbrev pub offer_at : List CompiledPool → List (List ℕ × List ℕ) → Service → Offer

@@ -17,10 +17,11 @@ use Rattle.object_history.specs.Cache.{Cached, cached_after}
 use Rattle.object_history.specs.Observations.{Watched, WatchExpired}
 use Rattle.kube_model.specs.Keys.{key_cmp, same_key, without}
 use Rattle.object_cache.specs.declared.change.TakeNote.{TakeNote}
-use Rattle.object_cache.specs.declared.change.TakeNote.TheVariants.{Quiet, Accepted, Refused}
-use Rattle.object_cache.specs.declared.change.Applied.{Applied}
+use Rattle.object_cache.specs.declared.change.TakeNote.TheVariants.{Quiet}
 use Rattle.object_cache.specs.Change.{applied}
+use Rattle.object_cache.specs.Labels.{is_relabelled}
 use Rattle.object_cache.specs.Limits.{most_services, passes}
+use Rattle.object_cache.specs.Same.{is_other}
 use Rattle.claim_index.specs.Claims.{ClaimValue, others, settled, loses, has_claims}
 use Rattle.core_rules.specs.Core.{State, shown_terms, is_ready, all_free, waiting}
 use Rattle.core_rules.specs.Keys.{own_key}
@@ -137,22 +138,22 @@ with_services_listed s =
           ++ listed_and_free (is_ready s.held) (s.held.config_ended && is_some s.held.config) (have_claims s.held.services s.claims) s;
     }
 
-abbrev pub is_accepted : TakeNote → Bool
-is_accepted Accepted = true
-is_accepted Quiet = false
-is_accepted (Refused fault) = false
+-- What may have another choice after an event of the configuration: any service where the core wasn't ready or another configuration is
+-- in force than before, and else those of a namespace that has other labels.
+abbrev pub is_woken : Cached → Cached → Key → Bool
+is_woken before after key = not (is_ready before) || is_other before.config after.config || is_relabelled before after key.namespace
 
--- the core becomes ready, a configuration is accepted, or a namespace changes
-abbrev pub wakes : Cached → Applied → Cached → Bool
-wakes before by after = is_ready after && (not (is_ready before) || is_accepted by.note || by.namespace_changed)
+abbrev pub woken : Cached → Cached → List (Key × Versioned Service)
+woken before after = filter (λ e. is_woken before after e.0) before.services
 
--- the configuration or a namespace changes
+-- The configuration or a namespace is shown or deleted, or their list ends. While the core is ready those that are free of the services that
+-- may have another choice are queued.
 abbrev pub configured : State → Event → State
 configured s event =
     let after = cached_after (Watched event) s.held in
     record s {
       held = after;
-      queue = if wakes s.held (applied s.held event) after then s.queue ++ all_free s.queue s.awaiting s.held.services else s.queue;
+      queue = if is_ready after then s.queue ++ all_free s.queue s.awaiting (woken s.held after) else s.queue;
     }
 
 -- the watches have expired

@@ -1,5 +1,5 @@
 -- What a reached core comes to is reached, and each reached core is quiet.
-use Rattle.std.proofs.Common.{◌≡◌, ℕ, true, List, [], ◌∷◌, Option, Some, None, Result, Ok, Err, is_some, refl, sym, ap, subst}
+use Rattle.std.proofs.Common.{◌≡◌, ℕ, true, List, [], ◌∷◌, Option, Some, None, Result, Ok, Err, is_some, refl, sym, ap, subst, ◌∙◌}
 use Rattle.std.specs.Prelude.{IsSome, OnOk, OnErr}
 use Rattle.std.specs.List.Sorted.{IsStrictlySortedBy}
 use Rattle.std.specs.Map.{keys_of}
@@ -7,7 +7,8 @@ use Rattle.kube_model.specs.declared.event.Event.{Event}
 use Rattle.kube_model.specs.declared.event.ListGroup.{ListGroup}
 use Rattle.kube_model.specs.declared.reply.PutReply.{PutReply}
 use Rattle.kube_model.specs.Keys.{key_cmp}
-use Rattle.object_history.specs.Cache.{cached}
+use Rattle.versioned_map.specs.Objects.{listed}
+use Rattle.object_history.specs.Cache.{Cached, cached}
 use Rattle.object_history.specs.Observations.{Observation}
 use Rattle.core_rules.specs.Core.{State, fresh, is_ready}
 use Rattle.core_rules.specs.Replied.{core_reply}
@@ -17,6 +18,7 @@ use Rattle.core_rules.specs.Run.{TranscriptEntry, Took, Expired, Turned, Heard, 
 use Rattle.core_rules.proofs.Runs.{core_holds_what_was_observed}
 use Rattle.core_laws.specs.Quiet.{IsQuiet}
 use Rattle.core_laws.proofs.Free.{IsOrderly, runs-orderly}
+use Rattle.core_laws.proofs.Fresh.{fresh_namespaces}
 use Rattle.core_laws.proofs.Orderly.{sorted-services}
 use Rattle.core_laws.proofs.Queued.{AreHeld, runs-held}
 use Rattle.core_laws.proofs.QuietRuns.{runs_are_quiet}
@@ -56,6 +58,12 @@ pub reached-sorted : (s : State) → IsReached s → IsStrictlySortedBy key_cmp 
 reached-sorted s r =
     subst (λ (t : State). IsStrictlySortedBy key_cmp (keys_of t.held.services)) r.leads
     (sorted-services (core_after r.class r.run) (observed r.run) (core_holds_what_was_observed r.class r.run r.is).0)
+
+-- while the list of the configuration has ended no namespace is at version 0
+pub reached-fresh_namespaces : (s : State) → IsReached s → s.held.config_ended ≡ true → listed s.held.namespaces ≡ s.held.namespaces
+reached-fresh_namespaces s r =
+    subst (λ (held : Cached). held.config_ended ≡ true → listed held.namespaces ≡ held.namespaces)
+    (sym (core_holds_what_was_observed r.class r.run r.is).0 ∙ ap (λ (t : State). t.held) r.leads) (fresh_namespaces (observed r.run))
 
 -- the held objects are those that were shown
 pub reached-cached : (s : State) → IsReached s → (observations : List Observation) × (s.held ≡ cached observations)

@@ -20,22 +20,22 @@ use Rattle.kube_model.proofs.KeyLaws.{key_cmp-total, is_eq-key_cmp, same_key-is,
 use Rattle.versioned_map.specs.declared.map.Versioned.{Versioned}
 use Rattle.versioned_map.specs.Objects.{held_at, object_at, version_at, listed, shown}
 use Rattle.versioned_map.proofs.HeldLaws.{held_at-shown, held_at-removed, held_at-listed}
-use Rattle.object_history.specs.Cache.{cached_after, held_after}
+use Rattle.object_history.specs.Cache.{Cached, cached_after, held_after}
 use Rattle.object_history.specs.Kinds.{service_resource}
 use Rattle.object_history.specs.Observations.{Watched, WatchExpired}
 use Rattle.object_history.proofs.Held.{ascending-held_after}
-use Rattle.object_cache.specs.Change.{applied}
 use Rattle.object_cache.specs.Stays.{passing}
 use Rattle.claim_index.specs.Claims.{loses, has_claims}
 use Rattle.core_rules.specs.Core.{State, is_ready, service_of, is_free_with, all_free, waits, waiting, shown_terms}
 use Rattle.core_rules.specs.Keys.{own_key}
 use Rattle.core_rules.specs.Take.{Configures, effect_of, no_key, is_unlisted, listed_keys, have_claims, listed_and_free}
-use Rattle.core_rules.specs.Take.{without_service, with_services_listed, is_accepted, wakes, configured, core_expired}
+use Rattle.core_rules.specs.Take.{without_service, with_services_listed, is_woken, woken, configured, core_expired}
 use Rattle.core_rules.proofs.Effects.{config-services}
 use Rattle.core_laws.proofs.Awaiting.{has_key-kept, has_key-without}
 use Rattle.core_laws.proofs.Orderly.{own-same}
 use Rattle.core_laws.proofs.Ready.{config-ready}
 use Rattle.core_laws.proofs.Rows.{has_key-append}
+use Rattle.core_laws.proofs.Woken.{object_at-filter, unready-woken, woken-ascend}
 use Rattle.ctl_core.specs.Holding.{held_service}
 use Rattle.ctl_core.specs.Reached.{IsReached}
 use Rattle.core_keys.specs.Lacking.{lacks_record}
@@ -422,40 +422,55 @@ listed-wait s services lost old new r waits_old services_are lost_is new_is key 
     ∙ ap (λ b. b && waits_at s.class after.queue after.awaiting key (service_of after.held key)) (ready-listed s.held.config_ended (is_some s.held.config))
 
 -- ---- the configuration or a namespace changes
--- where nothing wakes, the core is as ready as before
-as-ready : (before after accepted namespace : Bool) → (before ≡ true → after ≡ true) → (after && (not before || accepted || namespace)) ≡ false → before ≡ after
-as-ready true true accepted namespace stays e = refl
-as-ready true false accepted namespace stays e = absurd (true≢false (sym (stays refl)))
-as-ready false true accepted namespace stays e = absurd (cc)
-as-ready false false accepted namespace stays e = refl
+-- those that are queued don't wait any more, and the others do as before
+unwoken-waits : (here q a : Bool) (found : Option Service) (class : Option (List ℕ))
+    → free_lacks (q || (is_some (cond here found None) && (not q && not a))) a (lacks_record class found)
+    ≡ (not here && free_lacks q a (lacks_record class found))
+unwoken-waits true q a found class = none-waits q a found class
+unwoken-waits false q a found class = ap (λ b. free_lacks b a (lacks_record class found)) (or-false q)
 
-configured-at : (b : Bool) (s : State) (event : Event) (old new : BTreeSet Key) (key : Key) → IsStrictlySortedBy key_cmp (keys_of s.held.services)
-    → b ≡ wakes s.held (applied s.held event) (cached_after (Watched event) s.held) → effect_of event ≡ Configures → WaitIn s old
-    → contains key_cmp new key ≡ (not b && contains key_cmp old key)
-    → contains key_cmp new key
-    ≡ (is_ready (cached_after (Watched event) s.held)
-    && waits_at s.class (cond b (s.queue ++ all_free s.queue s.awaiting s.held.services) s.queue) s.awaiting key (service_of s.held key))
-configured-at true s event old new key sorted b c waits_old new_is =
-    new_is
-    ∙ sym (ap (λ b. is_ready (cached_after (Watched event) s.held) && b) (free-queued s.class s.queue s.awaiting s.held.services key sorted)
-    ∙ and-false (is_ready (cached_after (Watched event) s.held)))
-configured-at false s event old new key sorted b c waits_old new_is =
-    new_is ∙ waits_old key
-    ∙ ap (λ b. b && waits_at s.class s.queue s.awaiting key (service_of s.held key))
-    (as-ready (is_ready s.held) (is_ready (cached_after (Watched event) s.held)) (is_accepted (applied s.held event).note)
-    (applied s.held event).namespace_changed
-    (config-ready event s.held c) (sym b))
+woken-waits : (class : Option (List ℕ)) (queue awaiting : List Key) (before after : Cached) (key : Key) → IsStrictlySortedBy key_cmp (keys_of before.services)
+    → waits_at class (queue ++ all_free queue awaiting (woken before after)) awaiting key (service_of before key)
+    ≡ (not (is_woken before after key) && waits_at class queue awaiting key (service_of before key))
+woken-waits class queue awaiting before after key s =
+    let es = woken before after in
+    let found = service_of before key in
+    waits_at-lacks class (queue ++ all_free queue awaiting es) awaiting key found
+    ∙ ap (λ q. free_lacks q (has_key awaiting key) (lacks_record class found))
+    (has_key-append queue (all_free queue awaiting es) key
+    ∙ ap (λ b. has_key queue key || b) (has-free queue awaiting es key (woken-ascend before after s)
+    ∙ ap (λ (x : Option Service). is_some x && (not (has_key queue key) && not (has_key awaiting key)))
+    (object_at-filter (is_woken before after) before.services key)))
+    ∙ unwoken-waits (is_woken before after key) (has_key queue key) (has_key awaiting key) found class
+    ∙ ap (λ b. not (is_woken before after key) && b) (sym (waits_at-lacks class queue awaiting key found))
 
-pub configured-wait : (s : State) (event : Event) (woken : Bool) (old new : BTreeSet Key) → IsReached s → effect_of event ≡ Configures → WaitIn s old
-    → woken ≡ wakes s.held (applied s.held event) (cached_after (Watched event) s.held)
-    → ((key : Key) → contains key_cmp new key ≡ (not woken && contains key_cmp old key))
+-- where the core isn't ready afterwards it wasn't before; where it wasn't before, all are woken
+tables : (before after woken waits : Bool) → (before ≡ true → after ≡ true) → (before ≡ false → woken ≡ true)
+    → (not woken && (before && waits)) ≡ (after && (not woken && waits))
+tables true true woken waits stays all = refl
+tables true false woken waits stays all = absurd (true≢false (sym (stays refl)))
+tables false after woken waits stays all = rw (all refl) (sym (and-false after))
+
+pub configured-wait : (s : State) (event : Event) (old new : BTreeSet Key) → IsReached s → effect_of event ≡ Configures → WaitIn s old
+    → ((key : Key) → contains key_cmp new key ≡ (not (is_woken s.held (cached_after (Watched event) s.held) key) && contains key_cmp old key))
     → WaitIn (configured s event) new
-configured-wait s event woken old new r c waits_old woken_is new_is key =
-    let after = configured s event in
-    configured-at (wakes s.held (applied s.held event) (cached_after (Watched event) s.held)) s event old new key (reached-sorted s r) refl c waits_old
-    (new_is key ∙ ap (λ b. not b && contains key_cmp old key) woken_is)
-    ∙ ap (λ (es : List (Key × Versioned Service)). is_ready after.held && waits_at s.class after.queue s.awaiting key (object_at key_cmp es key))
+configured-wait s event old new r c waits_old new_is key =
+    let after = cached_after (Watched event) s.held in
+    let more = all_free s.queue s.awaiting (woken s.held after) in
+    let here = is_woken s.held after key in
+    let waits = waits_at s.class s.queue s.awaiting key (service_of s.held key) in
+    new_is key ∙ ap (λ b. not here && b) (waits_old key)
+    ∙ tables (is_ready s.held) (is_ready after) here waits (config-ready event s.held c) (unready-woken s.held after key)
+    ∙ ap (λ b. is_ready after && b) (sym (woken-waits s.class s.queue s.awaiting s.held after key (reached-sorted s r)))
+    ∙ queued-by (is_ready after) s.queue more key
+    ∙ ap (λ (es : List (Key × Versioned Service)). is_ready after && waits_at s.class (configured s event).queue s.awaiting key (object_at key_cmp es key))
     (sym (config-services event s.held c))
+  where
+    queued-by : (b : Bool) (queue more : List Key) (key : Key)
+        → (b && waits_at s.class (queue ++ more) s.awaiting key (service_of s.held key))
+        ≡ (b && waits_at s.class (cond b (queue ++ more) queue) s.awaiting key (service_of s.held key))
+    queued-by true queue more key = refl
+    queued-by false queue more key = refl
 
 -- ---- a watch has expired
 not-ended : (a b c : Bool) → b ≡ false → (a && b && c) ≡ true → ⊥

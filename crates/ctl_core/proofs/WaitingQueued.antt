@@ -110,9 +110,15 @@ listed-behind false true lost s r =
     free-behind s.queue s.awaiting (listed s.held.services)
     (ascending-held_after service_resource key_cmp-total (Watched (ListEnd groups.Service)) s.held.services (reached-sorted s r))
 
-pub woken-behind : (may : Bool) (s : State) → IsReached s → GoBehind (cond may (all_free s.queue s.awaiting s.held.services) []) s.queue
-woken-behind true s r = free-behind s.queue s.awaiting s.held.services (reached-sorted s r)
-woken-behind false s r = nothing-behind s.queue
+pub asked-behind : (asked : Bool) (s : State) → IsReached s → GoBehind (cond asked (all_free s.queue s.awaiting s.held.services) []) s.queue
+asked-behind true s r = free-behind s.queue s.awaiting s.held.services (reached-sorted s r)
+asked-behind false s r = nothing-behind s.queue
+
+pub free-in-behind : (namespace : List ℕ) (s : State) → IsReached s
+    → GoBehind (all_free s.queue s.awaiting (filter (λ e. bytes_eq namespace e.0.namespace) s.held.services)) s.queue
+free-in-behind namespace s r =
+    free-behind s.queue s.awaiting (filter (λ e. bytes_eq namespace e.0.namespace) s.held.services)
+    (ascending-filter key_cmp (λ (e : Key × Versioned Service). bytes_eq namespace e.0.namespace) s.held.services (reached-sorted s r))
 
 -- ---- they are found by the set of those that wait
 and-first : (a b : Bool) → (a && b) ≡ true → a ≡ true

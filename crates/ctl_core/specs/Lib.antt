@@ -1,4 +1,3 @@
 pub mod Holding
 pub mod Reached
 pub mod Waiting
-pub mod Waking

@@ -1,37 +1,40 @@
 //! Events that are taken.
-ghost use Rattle.std.specs.Prelude.{◌≡◌, ◌↔◌, ◌⊎◌, ◌+◌, ◌++◌, ◌&&◌, ◌||◌, [], if◌then◌else◌, not};
-ghost use Rattle.std.specs.Prelude.{is_some, None, true, false};
+ghost use Rattle.std.specs.Prelude.{◌≡◌, ◌↔◌, ◌⊎◌, ◌+◌, ◌++◌, ◌&&◌, ◌||◌, ℕ, List, not};
+ghost use Rattle.std.specs.Prelude.{is_some, true, false};
 ghost use Rattle.std.specs.Prelude.{IsErrOf, OnOk, OnErr, IfOk, IfErr};
+ghost use Rattle.std.specs.Str.{bytes_eq};
 ghost use Rattle.kube_model.specs.Keys.{key_cmp};
 ghost use Rattle.object_history.specs.Observations.{Watched};
-ghost use Rattle.object_history.specs.Cache.{cached_after};
+ghost use Rattle.object_history.specs.Cache.{cached_after, event_compiles, in_force};
 ghost use Rattle.object_cache.specs.Change.{applied};
+ghost use Rattle.object_cache.specs.Labels.{is_named, is_relabelled};
 ghost use Rattle.object_cache.specs.Limits.{passes, most_services};
 ghost use Rattle.object_cache.specs.declared.change.TakeNote.TheVariants.{Quiet as QuietNote};
 ghost use Rattle.versioned_map.specs.Objects.{is_newer};
 ghost use Rattle.claim_index.specs.Claims.{has_claims};
-ghost use Rattle.core_rules.specs.Core.{all_free, is_ready, pools_in};
+ghost use Rattle.pool_config.specs.Compile.{compiled};
+ghost use Rattle.core_rules.specs.Core.{is_ready, pools_in};
 ghost use Rattle.core_rules.specs.Take.{Configures, effect_of, core_take, core_note, core_expired};
 ghost use Rattle.core_rules.specs.Take.{limits, with_service, without_service};
 ghost use Rattle.core_rules.specs.Take.{with_services_listed, all_expired, listed_and_free};
-ghost use Rattle.core_rules.specs.Take.{have_claims, shows, is_accepted, configured};
+ghost use Rattle.core_rules.specs.Take.{have_claims, shows, configured};
 ghost use Rattle.core_keys.specs.Queued.{GoBehind};
 ghost use Rattle.full_entries.specs.Entries.{AreThose};
 ghost use Rattle.ctl_core.specs.Holding.{IsPrepared, held_service};
 ghost use Rattle.ctl_core.specs.Reached.{IsReached};
-ghost use Rattle.ctl_core.specs.Waking.{may_wake, ends_config};
 
 use crate::claims::{have_claims, keep_listed_claims, shown_claim};
 use crate::state::{CoreState, config_or, is_ready};
 use alloc_book::{Book, Claim};
 use core_keys::{
-    Keys, all_free, append_new, drop_key, keep_awaiting, keep_listed, listed_and_free,
-    own_and_waiting, stop_awaiting, truncate_unless,
+    Keys, append_new, drop_key, free_in, free_where, keep_awaiting, keep_listed, listed_and_free,
+    own_and_waiting, stop_awaiting,
 };
 use core_rules::TakeFault;
+use kube_labels::Text;
 use kube_model::{Event, Key, Kind, ListGroup, Object, Service};
-use mlb_base::NoMemory;
-use object_cache::{Applied, MOST_SERVICES, ObjectCache, TakeNote};
+use mlb_base::{NoMemory, TryCopy};
+use object_cache::{MOST_SERVICES, NextConfig, ObjectCache, TakeNote};
 use pool_config::Config;
 use std::alloc::Global;
 
@@ -266,35 +269,96 @@ impl CoreState {
         ensures ok { OnOk result (self.new ≡ configured self.old event) }
         ensures err { OnErr result (self.new ≡ self.old) }
     {
-        let was_ready = is_ready(&self.cache);
-        let queued = self.queue.len();
-        let Ok(woken) = self.may_be_woken(&event) else {
-            return Err(NoMemory);
+        if self.cache.compiles(&event) {
+            return self.configure_anew(event);
+        }
+        let Some(namespace) = self.relabelled(&event)? else {
+            return apply(&mut self.cache, event);
         };
-        let applied = queue_and_apply(&mut self.queue, &mut self.cache, woken, event)?;
-        enter_accepted(self.alloc, &mut self.book, &self.cache, &applied);
-        let wakes = wakes(was_ready, &applied, is_ready(&self.cache));
-        truncate_unless(wakes, &mut self.queue, queued);
-        self.waiting.clear_where(wakes);
-        Ok(applied.note)
+        self.relabel(event, &namespace)
     }
 
-    /// The keys that are queued where the event wakes them: every free key, and none while it
-    /// can't.
-    fn may_be_woken(&self, event: &Event) -> Result<Vec<Key>, NoMemory>
-        ensures { IfOk result
-            (λ keys. keys.items ≡ (if may_wake self.now.held event.now
-            then all_free self.now.queue self.now.awaiting self.now.held.services else [])) }
+    /// The event has the configuration compiled. Where the core wasn't ready, or another
+    /// configuration is in force from now on, every free key is queued.
+    fn configure_anew(&mut self, event: Event) -> Result<TakeNote, NoMemory>
+        requires configures { effect_of event ≡ Configures }
+        requires compiles { event_compiles self.old.held.objects self.old.held.config_ended event
+            ≡ true }
+        requires reached { IsReached self.old }
+        ensures note { IfOk result (λ note. note ≡ (applied self.old.held event).note) }
+        ensures ok { OnOk result (self.new ≡ configured self.old event) }
+        ensures err { OnErr result (self.new ≡ self.old) }
     {
-        if !may_wake(&self.cache, event) {
-            return Ok(Vec::new(self.alloc));
-        }
-        all_free(
+        let next = self.cache.compile_next(event)?;
+        let is_other = self.cache.is_other_after(&next);
+        let wakes = self.wakes(&next, is_other);
+        let more = free_where(
             self.alloc,
+            wakes,
             &self.queue,
             &self.awaiting,
             self.cache.services(),
-        )
+        )?;
+        append_new(&mut self.queue, more)?;
+        let note = self.cache.adopt(next);
+        enter_other(self.alloc, &mut self.book, &self.cache, is_other);
+        self.waiting.clear_where(wakes);
+        Ok(note)
+    }
+
+    /// Whether the core is ready once this is adopted, and wasn't before or has another
+    /// configuration then.
+    fn wakes(&self, next: &NextConfig, is_other: bool) -> bool
+        ensures { result ≡ ((self.now.held.services_ended
+            && is_some (in_force self.now.held.config (compiled next.now.objects)))
+            && (not (is_ready self.now.held) || is_other)) }
+    {
+        let is_ready_then = self.cache.has_ended(ListGroup::Service)
+            && self.cache.has_config_after(next);
+        is_ready_then && (!is_ready(&self.cache) || is_other)
+    }
+
+    /// The namespace whose labels become others by the event, which doesn't have the configuration
+    /// compiled; none while the core isn't ready.
+    fn relabelled(&self, event: &Event) -> Result<Option<Text>, NoMemory>
+        requires { event_compiles self.now.held.objects self.now.held.config_ended event.now
+            ≡ false }
+        ensures { IfOk result (λ named. (name : List ℕ) → is_named named name
+            ≡ (is_ready self.now.held && is_relabelled self.now.held
+            (cached_after (Watched event.now) self.now.held) name)) }
+    {
+        if !is_ready(&self.cache) {
+            return Ok(None);
+        }
+        match self.cache.relabelled(event) {
+            None => Ok(None),
+            Some(name) => Ok(Some(name.copy()?)),
+        }
+    }
+
+    /// The labels of the namespace become others by the event: its free keys are queued.
+    fn relabel(&mut self, event: Event, namespace: &Text) -> Result<TakeNote, NoMemory>
+        requires configures { effect_of event ≡ Configures }
+        requires compiles { event_compiles self.old.held.objects self.old.held.config_ended event
+            ≡ false }
+        requires relabels { (name : List ℕ) → bytes_eq namespace.now name
+            ≡ (is_ready self.old.held && is_relabelled self.old.held
+            (cached_after (Watched event) self.old.held) name) }
+        requires reached { IsReached self.old }
+        ensures note { IfOk result (λ note. note ≡ (applied self.old.held event).note) }
+        ensures ok { OnOk result (self.new ≡ configured self.old event) }
+        ensures err { OnErr result (self.new ≡ self.old) }
+    {
+        let more = free_in(
+            self.alloc,
+            namespace,
+            &self.queue,
+            &self.awaiting,
+            self.cache.services(),
+        )?;
+        let note = queue_and_apply(&mut self.queue, &mut self.cache, more, event)?;
+        self.waiting.release_in(namespace);
+        Ok(note)
     }
 
     /// The watches have expired.
@@ -341,70 +405,52 @@ fn queue_and_apply(
     cache: &mut ObjectCache,
     more: Vec<Key>,
     event: Event,
-) -> Result<Applied, NoMemory>
+) -> Result<TakeNote, NoMemory>
     requires { GoBehind more.items queue.old }
-    ensures applied { IfOk result (λ a. a ≡ applied cache.old event) }
+    ensures note { IfOk result (λ note. note ≡ (applied cache.old event).note) }
     ensures cache { OnOk result (cache.new ≡ cached_after (Watched event) cache.old) }
     ensures queue { OnOk result (queue.new ≡ queue.old ++ more.items) }
     ensures cache_err { OnErr result (cache.new ≡ cache.old) }
     ensures queue_err { OnErr result (queue.new ≡ queue.old) }
 {
     let queued = queue.len();
-    if append_new(queue, more).is_err() {
-        return Err(NoMemory);
-    }
-    match cache.apply(event) {
-        Ok(applied) => Ok(applied),
-        Err(_) => {
+    append_new(queue, more)?;
+    match apply(cache, event) {
+        Ok(note) => Ok(note),
+        Err(NoMemory) => {
             queue.truncate(queued);
             Err(NoMemory)
         }
     }
 }
 
-/// Where a configuration was accepted, addresses are chosen from its pools from now on.
-fn enter_accepted(alloc: Global, book: &mut Book, cache: &ObjectCache, applied: &Applied)
-    ensures claims { book.new.claims ≡ book.old.claims }
-    ensures accepted { is_accepted applied.now.note ≡ true
-        → AreThose (pools_in cache.now.config) book.new.entries }
-    ensures others { is_accepted applied.now.note ≡ false → book.new.entries ≡ book.old.entries }
+/// The event is applied.
+fn apply(cache: &mut ObjectCache, event: Event) -> Result<TakeNote, NoMemory>
+    ensures note { IfOk result (λ note. note ≡ (applied cache.old event).note) }
+    ensures ok { OnOk result (cache.new ≡ cached_after (Watched event) cache.old) }
+    ensures err { OnErr result (cache.new ≡ cache.old) }
 {
-    if !matches!(applied.note, TakeNote::Accepted) {
+    match cache.apply(event) {
+        Ok(applied) => Ok(applied.note),
+        Err(_) => Err(NoMemory),
+    }
+}
+
+/// Where another configuration is in force, addresses are chosen from its pools from now on.
+fn enter_other(alloc: Global, book: &mut Book, cache: &ObjectCache, is_other: bool)
+    ensures claims { book.new.claims ≡ book.old.claims }
+    ensures other { is_other ≡ true → AreThose (pools_in cache.now.config) book.new.entries }
+    ensures same { is_other ≡ false → book.new.entries ≡ book.old.entries }
+{
+    if !is_other {
         return;
     }
     let no_config = Config::empty(alloc);
     book.enter(config_or(cache, &no_config));
 }
 
-/// Whether the core may be ready after an event of the configuration.
-fn may_wake(cache: &ObjectCache, event: &Event) -> bool
-    ensures { result ≡ may_wake cache.now event.now }
-{
-    cache.has_ended(ListGroup::Service)
-        && (cache.has_ended(ListGroup::Config) || ends_config(event))
-}
-
-fn ends_config(event: &Event) -> bool
-    ensures { result ≡ ends_config event.now }
-{
-    matches!(
-        event,
-        Event::ListEnd {
-            group: ListGroup::Config
-        }
-    )
-}
-
 fn is_configured(cache: &ObjectCache) -> bool
     ensures { result ≡ (cache.now.config_ended && is_some cache.now.config) }
 {
     cache.has_ended(ListGroup::Config) && cache.config().is_some()
-}
-
-fn wakes(was_ready: bool, applied: &Applied, is_ready: bool) -> bool
-    ensures { result ≡ (is_ready && (not was_ready || is_accepted applied.now.note
-        || applied.now.namespace_changed)) }
-{
-    is_ready
-        && (!was_ready || matches!(applied.note, TakeNote::Accepted) || applied.namespace_changed)
 }

@@ -1,3 +1,5 @@
 pub mod Change
+pub mod Labels
 pub mod Limits
+pub mod Same
 pub mod Stays

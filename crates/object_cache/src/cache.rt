@@ -1,30 +1,36 @@
 //! What is held of a cluster.
-ghost use Rattle.std.specs.Prelude.{◌≡◌, ◌↔◌, ◌&&◌, ℕ, true, false, Some, IfOk, OnOk, OnErr};
+ghost use Rattle.std.specs.Prelude.{◌≡◌, ◌↔◌, ℕ, List, true, false, is_some, Some, IfOk, OnOk, OnErr};
 ghost use Rattle.std.specs.Prelude.{IsErrOf};
 ghost use Rattle.std.specs.Option.{option_copied};
+ghost use Rattle.kube_model.specs.declared.event.Event.{Event as EventValue};
 ghost use Rattle.kube_model.specs.declared.event.Event.TheVariants.{Changed, Deleted, ListEnd};
 ghost use Rattle.kube_model.specs.declared.event.Event.TheVariants.{Expired as ExpiredEvent};
 ghost use Rattle.kube_model.specs.declared.object.Kind.{Kind};
 ghost use Rattle.versioned_map.specs.Objects.{object_at, version_at};
 ghost use Rattle.kube_labels.specs.Names.{name_cmp};
 ghost use Rattle.kube_model.specs.Keys.{key_cmp};
-ghost use Rattle.pool_config.specs.Objects.{set_shown, set_shows, set_without, set_listed};
-ghost use Rattle.object_history.specs.Observations.{Watched, WatchExpired, Written};
-ghost use Rattle.object_history.specs.Cache.{Cached, nothing, cached_after};
-ghost use Rattle.object_cache.specs.Change.{applied, config_applied, with_objects, has_ended};
+ghost use Rattle.pool_config.specs.Compile.{compiled};
+ghost use Rattle.object_history.specs.Observations.{Watched, WatchExpired, Written, same_group};
+ghost use Rattle.object_history.specs.Cache.{Cached, nothing, cached_after, event_compiles, in_force};
+ghost use Rattle.object_cache.specs.Change.{applied, has_ended, next_of, note_in, with_next};
+ghost use Rattle.object_cache.specs.Labels.{is_named, is_relabelled};
 ghost use Rattle.object_cache.specs.Limits.{limit_of, object_limit, most_services, passes};
+ghost use Rattle.object_cache.specs.Same.{is_other};
 
 use crate::change::{Applied, ApplyFault, TakeNote};
 use crate::kinds::{
-    copy_with, is_newer, show_namespace, show_node, show_service, show_slice, store_record,
+    copy_listed, copy_with, copy_without, is_config_kind, is_newer, show_namespace, show_node,
+    show_service, show_slice, store_record,
 };
 use crate::limits::{MOST_NODES, MOST_SERVICES, passes};
+use crate::next::NextConfig;
+use crate::relabelling::{relabelled_by_deleted, relabelled_by_shown};
 use kube_labels::Text;
 use kube_model::{
     EndpointSlice, Event, Key, Kind, ListGroup, Namespace, Node, Object, Record, Service,
 };
-use mlb_base::{NoMemory, TryCopy};
-use pool_config::{CompileFault, Config, ObjectSet, compile};
+use mlb_base::NoMemory;
+use pool_config::{Config, ObjectSet};
 use std::alloc::Global;
 use std::marker::Model;
 use std::mem;
@@ -305,209 +311,211 @@ impl ObjectCache {
         }
     }
 
+    /// Whether the event has the configuration compiled: it ends its list, or is one of its objects'
+    /// and applies while the list is ended.
+    pub fn compiles(&self, event: &Event) -> bool
+        ensures { result ≡ event_compiles self.now.objects self.now.config_ended event.now }
+    {
+        match event {
+            Event::Changed { version, object } => {
+                is_newer(&self.objects, *version, object) && self.config_ended
+            }
+            Event::Deleted { kind, .. } => is_config_kind(*kind) && self.config_ended,
+            Event::ListEnd { group } => matches!(group, ListGroup::Config),
+            Event::Expired | Event::Members { .. } | Event::Frame { .. } | Event::Ignored => false,
+        }
+    }
+
+    /// What is compiled at the event, which has the configuration compiled. Nothing changes before
+    /// it is adopted.
+    pub fn compile_next(&self, event: Event) -> Result<NextConfig, NoMemory>
+        requires { event_compiles self.now.objects self.now.config_ended event ≡ true }
+        ensures { IfOk result (λ next. next ≡ next_of self.now event) }
+    {
+        match event {
+            Event::Changed { version, object } => {
+                let objects = copy_with(&self.objects, version, object)?;
+                NextConfig::new(self.alloc, objects, false)
+            }
+            Event::Deleted { kind, key } => {
+                let objects = copy_without(&self.objects, kind, &key.name)?;
+                NextConfig::new(self.alloc, objects, false)
+            }
+            _ => {
+                let objects = copy_listed(&self.objects)?;
+                NextConfig::new(self.alloc, objects, true)
+            }
+        }
+    }
+
+    /// Whether a configuration is in force once this one is adopted.
+    pub fn has_config_after(&self, next: &NextConfig) -> bool
+        ensures { result ≡ is_some (in_force self.now.config (compiled next.now.objects)) }
+    {
+        next.leaves_config(self.config.as_ref())
+    }
+
+    /// Whether another configuration is in force then than now.
+    pub fn is_other_after(&self, next: &NextConfig) -> bool
+        ensures { result ≡ is_other self.now.config
+            (in_force self.now.config (compiled next.now.objects)) }
+    {
+        next.is_other(self.config.as_ref())
+    }
+
+    /// What was compiled at an event is held from now on, and where it was accepted it is in force.
+    /// This takes no memory.
+    pub fn adopt(&mut self, next: NextConfig) -> TakeNote
+        ensures note { result ≡ note_in (compiled next.objects) }
+        ensures adopted { self.new ≡ with_next self.old next }
+        ensures event { (event : EventValue)
+            → event_compiles self.old.objects self.old.config_ended event ≡ true
+            → next ≡ next_of self.old event → self.new ≡ cached_after (Watched event) self.old }
+    {
+        let (objects, compiled, ends) = next.into_parts();
+        drop(mem::replace(&mut self.objects, objects));
+        if ends {
+            self.namespaces.drop_unlisted();
+            self.nodes.drop_unlisted();
+            self.config_ended = true;
+        }
+        match compiled {
+            Ok(config) => {
+                drop(self.config.replace(config));
+                TakeNote::Accepted
+            }
+            Err(fault) => TakeNote::Refused { fault },
+        }
+    }
+
+    /// The namespace whose labels become others by the event, which doesn't have the configuration
+    /// compiled. One that isn't held has none.
+    pub fn relabelled<'a>(&self, event: &'a Event) -> Option<&'a Text>
+        requires { event_compiles self.now.objects self.now.config_ended event.now ≡ false }
+        ensures { (name : List ℕ)
+            → is_relabelled self.now (cached_after (Watched event.now) self.now) name
+            ≡ is_named (option_copied result) name }
+    {
+        match event {
+            Event::Changed { version, object } => {
+                relabelled_by_shown(&self.namespaces, *version, object)
+            }
+            Event::Deleted { kind, key } => relabelled_by_deleted(&self.namespaces, *kind, key),
+            Event::ListEnd { .. } => None,
+            Event::Expired => None,
+            Event::Members { .. } => None,
+            Event::Frame { .. } => None,
+            Event::Ignored => None,
+        }
+    }
+
     fn apply_within(&mut self, event: Event) -> Result<Applied, NoMemory>
         ensures applied { IfOk result (λ a. a ≡ applied self.old event) }
         ensures ok { OnOk result (self.new ≡ cached_after (Watched event) self.old) }
         ensures err { OnErr result (self.new ≡ self.old) }
     {
+        if self.compiles(&event) {
+            return self.apply_compiled(event);
+        }
+        self.apply_uncompiled(event)?;
+        Ok(Applied {
+            other_config: false,
+            note: TakeNote::Quiet,
+        })
+    }
+
+    /// The event has the configuration compiled.
+    fn apply_compiled(&mut self, event: Event) -> Result<Applied, NoMemory>
+        requires { event_compiles self.old.objects self.old.config_ended event ≡ true }
+        ensures applied { IfOk result (λ a. a ≡ applied self.old event) }
+        ensures ok { OnOk result (self.new ≡ cached_after (Watched event) self.old) }
+        ensures err { OnErr result (self.new ≡ self.old) }
+    {
+        let next = self.compile_next(event)?;
+        let other_config = self.is_other_after(&next);
+        let note = self.adopt(next);
+        Ok(Applied { other_config, note })
+    }
+
+    /// It doesn't.
+    fn apply_uncompiled(&mut self, event: Event) -> Result<(), NoMemory>
+        requires { event_compiles self.old.objects self.old.config_ended event ≡ false }
+        ensures ok { OnOk result (self.new ≡ cached_after (Watched event) self.old) }
+        ensures err { OnErr result (self.new ≡ self.old) }
+    {
         match event {
             Event::Changed { version, object } => self.show(version, object),
-            Event::Deleted { kind, key } => self.delete(kind, key),
+            Event::Deleted { kind, key } => {
+                self.delete(kind, &key);
+                Ok(())
+            }
             Event::ListEnd { group } => {
-                drop(event);
-                self.end_list(group)
+                self.end_list(group);
+                Ok(())
             }
             Event::Expired => {
-                drop(event);
                 self.expire_all();
-                Ok(quietly())
+                Ok(())
             }
-            Event::Members { .. } | Event::Frame { .. } | Event::Ignored => {
-                drop(event);
-                Ok(quietly())
-            }
+            Event::Members { .. } | Event::Frame { .. } | Event::Ignored => Ok(()),
         }
     }
 
-    fn show(&mut self, version: u64, object: Object) -> Result<Applied, NoMemory>
-        ensures applied { IfOk result (λ a. a ≡ applied self.old (Changed version object)) }
+    fn show(&mut self, version: u64, object: Object) -> Result<(), NoMemory>
+        requires { event_compiles self.old.objects self.old.config_ended (Changed version object)
+            ≡ false }
         ensures ok { OnOk result (self.new
             ≡ cached_after (Watched (Changed version object)) self.old) }
         ensures err { OnErr result (self.new ≡ self.old) }
     {
         match object {
-            Object::Service(service) => {
-                self.show_service(version, service)?;
-                Ok(quietly())
-            }
-            Object::Namespace(namespace) => Ok(Applied {
-                namespace_changed: show_namespace(&mut self.namespaces, version, namespace)?,
-                note: TakeNote::Quiet,
-            }),
-            Object::Node(node) => {
-                show_node(&mut self.nodes, version, node)?;
-                Ok(quietly())
-            }
-            Object::Slice(slice) => {
-                show_slice(&mut self.slices, version, slice)?;
-                Ok(quietly())
-            }
+            Object::Service(service) => self.show_service(version, service),
+            Object::Namespace(namespace) => show_namespace(
+                &mut self.namespaces,
+                version,
+                namespace,
+            ),
+            Object::Node(node) => show_node(&mut self.nodes, version, node),
+            Object::Slice(slice) => show_slice(&mut self.slices, version, slice),
             Object::Pool(_)
             | Object::L2(_)
             | Object::Bgp(_)
             | Object::Peer(_)
-            | Object::Community(_) => self.show_config(version, object),
-        }
-    }
-
-    /// An object of the configuration is shown.
-    fn show_config(&mut self, version: u64, object: Object) -> Result<Applied, NoMemory>
-        ensures applied { IfOk result (λ a. a ≡ config_applied
-            (set_shows self.old.objects version object && self.old.config_ended)
-            (set_shown self.old.objects version object)) }
-        ensures ok { OnOk result (self.new ≡ with_objects self.old
-            (set_shows self.old.objects version object && self.old.config_ended)
-            (set_shown self.old.objects version object)) }
-        ensures err { OnErr result (self.new ≡ self.old) }
-    {
-        if !is_newer(&self.objects, version, &object) {
-            drop(object);
-            return Ok(quietly());
-        }
-        if !self.config_ended {
-            let _is_held = self.objects.show(version, object)?;
-            return Ok(quietly());
-        }
-        let objects = copy_with(&self.objects, version, object)?;
-        self.compile_objects(objects)
-    }
-
-    /// The configuration is compiled from these objects, which are held from now on. Where it is
-    /// accepted, it is in force.
-    fn compile_objects(&mut self, objects: ObjectSet) -> Result<Applied, NoMemory>
-        ensures applied { IfOk result (λ a. a ≡ config_applied true objects) }
-        ensures ok { OnOk result (self.new ≡ with_objects self.old true objects) }
-        ensures err { OnErr result (self.new ≡ self.old) }
-    {
-        match compile(self.alloc, &objects) {
-            Ok(config) => {
-                drop(mem::replace(&mut self.objects, objects));
-                drop(self.config.replace(config));
-                Ok(noting(TakeNote::Accepted))
-            }
-            Err(CompileFault::Refused { fault }) => {
-                drop(mem::replace(&mut self.objects, objects));
-                Ok(noting(TakeNote::Refused { fault }))
-            }
-            Err(CompileFault::NoMemory) => {
-                drop(objects);
-                Err(NoMemory)
+            | Object::Community(_) => {
+                let _is_held = self.objects.show(version, object)?;
+                Ok(())
             }
         }
     }
 
-    fn delete(&mut self, kind: Kind, key: Key) -> Result<Applied, NoMemory>
-        ensures applied { IfOk result (λ a. a ≡ applied self.old (Deleted kind key)) }
-        ensures ok { OnOk result (self.new ≡ cached_after (Watched (Deleted kind key)) self.old) }
-        ensures err { OnErr result (self.new ≡ self.old) }
+    fn delete(&mut self, kind: Kind, key: &Key)
+        requires { event_compiles self.old.objects self.old.config_ended (Deleted kind key.now)
+            ≡ false }
+        ensures { self.new ≡ cached_after (Watched (Deleted kind key.now)) self.old }
     {
         match kind {
-            Kind::Service => {
-                self.delete_service(&key);
-                drop(key);
-                Ok(quietly())
-            }
-            Kind::Namespace => {
-                drop(self.namespaces.remove(&key.name));
-                drop(key);
-                Ok(Applied {
-                    namespace_changed: true,
-                    note: TakeNote::Quiet,
-                })
-            }
-            Kind::Node => {
-                drop(self.nodes.remove(&key.name));
-                drop(key);
-                Ok(quietly())
-            }
-            Kind::Slice => {
-                drop(self.slices.remove(&key));
-                drop(key);
-                Ok(quietly())
-            }
+            Kind::Service => self.delete_service(key),
+            Kind::Namespace => drop(self.namespaces.remove(&key.name)),
+            Kind::Node => drop(self.nodes.remove(&key.name)),
+            Kind::Slice => drop(self.slices.remove(key)),
             Kind::Pool | Kind::L2 | Kind::Bgp | Kind::Peer | Kind::Community => {
-                let applied = self.delete_config(kind, &key.name);
-                drop(key);
-                applied
+                self.objects.remove(kind, &key.name);
             }
         }
     }
 
-    /// An object of the configuration is deleted.
-    fn delete_config(&mut self, kind: Kind, name: &Text) -> Result<Applied, NoMemory>
-        ensures applied { IfOk result (λ a. a ≡ config_applied
-            self.old.config_ended (set_without self.old.objects kind name.now)) }
-        ensures ok { OnOk result (self.new ≡ with_objects self.old
-            self.old.config_ended (set_without self.old.objects kind name.now)) }
-        ensures err { OnErr result (self.new ≡ self.old) }
-    {
-        if !self.config_ended {
-            self.objects.remove(kind, name);
-            return Ok(quietly());
-        }
-        let mut objects = self.objects.copy()?;
-        objects.remove(kind, name);
-        self.compile_objects(objects)
-    }
-
-    fn end_list(&mut self, group: ListGroup) -> Result<Applied, NoMemory>
-        ensures applied { IfOk result (λ a. a ≡ applied self.old (ListEnd group)) }
-        ensures ok { OnOk result (self.new ≡ cached_after (Watched (ListEnd group)) self.old) }
-        ensures err { OnErr result (self.new ≡ self.old) }
+    /// The list ends, and isn't that of the configuration.
+    fn end_list(&mut self, group: ListGroup)
+        requires { same_group group ListGroup.Config ≡ false }
+        ensures { self.new ≡ cached_after (Watched (ListEnd group)) self.old }
     {
         match group {
-            ListGroup::Config => self.end_config(),
-            ListGroup::Service => {
-                self.end_services();
-                Ok(quietly())
-            }
+            ListGroup::Config => {}
+            ListGroup::Service => self.end_services(),
             ListGroup::Endpoint => {
                 self.slices.drop_unlisted();
                 self.endpoints_ended = true;
-                Ok(quietly())
             }
         }
-    }
-
-    fn end_config(&mut self) -> Result<Applied, NoMemory>
-        ensures applied { IfOk result (λ a. a ≡ applied self.old (ListEnd ListGroup.Config)) }
-        ensures ok { OnOk result (self.new
-            ≡ cached_after (Watched (ListEnd ListGroup.Config)) self.old) }
-        ensures err { OnErr result (self.new ≡ self.old) }
-    {
-        let mut objects = self.objects.copy()?;
-        objects.drop_unlisted();
-        let applied = self.compile_objects(objects)?;
-        self.namespaces.drop_unlisted();
-        self.nodes.drop_unlisted();
-        self.config_ended = true;
-        Ok(applied)
-    }
-}
-
-/// There is nothing to tell.
-fn quietly() -> Applied
-    ensures { result ≡ record { namespace_changed = false; note = TakeNote.Quiet } }
-{
-    noting(TakeNote::Quiet)
-}
-
-/// This is to be told, and no namespace changed.
-fn noting(note: TakeNote) -> Applied
-    ensures { result ≡ record { namespace_changed = false; note = note } }
-{
-    Applied {
-        namespace_changed: false,
-        note,
     }
 }

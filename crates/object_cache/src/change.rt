@@ -17,9 +17,8 @@ pub enum TakeNote {
 /// What an event came to.
 #[derive(Drop)]
 pub struct Applied {
-    /// A namespace was shown that is newer than what was held, or was deleted, also one that wasn't
-    /// held.
-    pub namespace_changed: bool,
+    /// Another configuration is in force than before.
+    pub other_config: bool,
     pub note: TakeNote,
 }
 

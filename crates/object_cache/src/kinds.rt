@@ -1,13 +1,14 @@
 //! One kind's objects.
 ghost use Rattle.std.specs.Prelude.{◌≡◌, IfOk, IsOkAnd, OnOk, OnErr};
-ghost use Rattle.versioned_map.specs.Objects.{is_held, is_newer, shown, shown_note, amended};
+ghost use Rattle.versioned_map.specs.Objects.{shown, shown_note, amended};
 ghost use Rattle.kube_labels.specs.Names.{name_cmp};
 ghost use Rattle.kube_model.specs.Keys.{key_cmp};
 ghost use Rattle.kube_model.specs.Service.{with_holding};
-ghost use Rattle.pool_config.specs.Objects.{set_shown, set_shows};
+ghost use Rattle.pool_config.specs.Objects.{set_listed, set_shown, set_shows, set_without};
+ghost use Rattle.object_history.specs.Observations.{is_config_kind};
 
 use kube_labels::Text;
-use kube_model::{EndpointSlice, Key, Namespace, Node, Object, Record, Service};
+use kube_model::{EndpointSlice, Key, Kind, Namespace, Node, Object, Record, Service};
 use mlb_base::{NoMemory, TryCopy};
 use pool_config::ObjectSet;
 use versioned_map::{Shown, VersionedMap};
@@ -26,35 +27,18 @@ pub(crate) fn show_service(
     Ok(())
 }
 
-/// A namespace is shown. Whether it is newer than what was held.
+/// A namespace is shown.
 pub(crate) fn show_namespace(
     namespaces: &mut VersionedMap<Text, Namespace>,
     version: u64,
     namespace: Namespace,
-) -> Result<bool, NoMemory>
-    ensures newer { IfOk result (λ newer. newer
-        ≡ is_newer name_cmp namespaces.old namespace.name version) }
+) -> Result<(), NoMemory>
     ensures ok { OnOk result (namespaces.new
         ≡ shown name_cmp namespaces.old namespace.name version namespace) }
     ensures err { OnErr result (namespaces.new ≡ namespaces.old) }
 {
-    let shown = show_under(namespaces, namespace.name.copy(), version, namespace)?;
-    Ok(is_held(shown))
-}
-
-fn is_held(shown: Shown<Namespace>) -> bool
-    ensures { result ≡ is_held shown }
-{
-    match shown {
-        Shown::Held { before } => {
-            drop(before);
-            true
-        }
-        Shown::PassedOver { object } => {
-            drop(object);
-            false
-        }
-    }
+    drop(show_under(namespaces, namespace.name.copy(), version, namespace)?);
+    Ok(())
 }
 
 /// A node is shown.
@@ -124,12 +108,35 @@ pub(crate) fn copy_with(
 fn with_shown(mut objects: ObjectSet, version: u64, object: Object) -> Result<ObjectSet, NoMemory>
     ensures { IfOk result (λ made. made ≡ set_shown objects version object) }
 {
-    match objects.show(version, object) {
-        Ok(_) => Ok(objects),
-        Err(NoMemory) => {
-            drop(objects);
-            Err(NoMemory)
-        }
+    let _is_held = objects.show(version, object)?;
+    Ok(objects)
+}
+
+/// A copy of the objects, without the one of this kind and name.
+pub(crate) fn copy_without(held: &ObjectSet, kind: Kind, name: &Text) -> Result<ObjectSet, NoMemory>
+    ensures { IfOk result (λ objects. objects ≡ set_without held.now kind name.now) }
+{
+    let mut objects = held.copy()?;
+    objects.remove(kind, name);
+    Ok(objects)
+}
+
+/// A copy of the objects, without those that weren't listed.
+pub(crate) fn copy_listed(held: &ObjectSet) -> Result<ObjectSet, NoMemory>
+    ensures { IfOk result (λ objects. objects ≡ set_listed held.now) }
+{
+    let mut objects = held.copy()?;
+    objects.drop_unlisted();
+    Ok(objects)
+}
+
+/// Whether objects of the kind make the configuration.
+pub(crate) fn is_config_kind(kind: Kind) -> bool
+    ensures { result ≡ is_config_kind kind }
+{
+    match kind {
+        Kind::Pool | Kind::L2 | Kind::Bgp | Kind::Peer | Kind::Community => true,
+        Kind::Service | Kind::Namespace | Kind::Node | Kind::Slice => false,
     }
 }
 

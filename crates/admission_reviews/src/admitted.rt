@@ -8,9 +8,9 @@ ghost use Rattle.admission_reviews.specs.Admitted.{kind_in, stated_where, admitt
 ghost use Rattle.admission_reviews.specs.Given.{GivesRead};
 
 use json_fields::FieldFault;
+use json_values::BorrowedValue;
 use kube_events::read_object;
 use kube_model::{EventFault, Kind, Object};
-use json_values::BorrowedValue;
 use std::alloc::Global;
 
 /// Whether a configuration is compiled from objects of the kind.
@@ -35,7 +35,10 @@ fn kind_in(object: &BorrowedValue<'_>) -> Option<Kind>
 
 /// The object that the value states, where it is of a kind that a configuration is compiled from.
 #[tactic(auto, unfolding(crate::specs::Admitted::admitted_of))]
-pub(crate) fn admitted_from(alloc: Global, object: &BorrowedValue<'_>) -> Result<Option<Object>, FieldFault>
+pub(crate) fn admitted_from(
+    alloc: Global,
+    object: &BorrowedValue<'_>,
+) -> Result<Option<Object>, FieldFault>
     ensures { Gives (λ x. x) result (admitted_of (view object.now)) }
 {
     match kind_in(object) {
@@ -49,7 +52,10 @@ pub(crate) fn admitted_from(alloc: Global, object: &BorrowedValue<'_>) -> Result
 /// Community.
 ///
 /// `Field` with the path of the first field that is invalid; it is no other fault but `NoMemory`.
-pub fn read_admitted(alloc: Global, object: &BorrowedValue<'_>) -> Result<Option<Object>, EventFault>
+pub fn read_admitted(
+    alloc: Global,
+    object: &BorrowedValue<'_>,
+) -> Result<Option<Object>, EventFault>
     ensures { GivesRead result (admitted_of (view object.now)) }
 {
     Ok(admitted_from(alloc, object)?)

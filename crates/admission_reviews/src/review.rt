@@ -13,9 +13,9 @@ ghost use Rattle.admission_reviews.specs.Reviews.{review_of_line};
 use crate::admitted::{admitted_from, is_config_kind};
 use crate::operation::Operation;
 use json_fields::{FieldFault, FromValue, require_object, required, required_name};
+use json_values::{BorrowedValue, Scratch, read_whole};
 use kube_labels::Text;
 use kube_model::{EventFault, Kind, Object};
-use json_values::{BorrowedValue, Scratch, read_whole};
 use std::alloc::Global;
 use std::marker::Model;
 
@@ -91,7 +91,11 @@ fn removal(alloc: Global, kind: Kind, object: &BorrowedValue<'_>) -> Result<Chan
 }
 
 /// What the deletion of an object comes to.
-fn remove_change(alloc: Global, kind: Option<Kind>, object: &BorrowedValue<'_>) -> Result<Change, FieldFault>
+fn remove_change(
+    alloc: Global,
+    kind: Option<Kind>,
+    object: &BorrowedValue<'_>,
+) -> Result<Change, FieldFault>
     ensures { GivesIf result (remove_change kind (view object.now)) }
 {
     match kind {
@@ -127,7 +131,11 @@ impl FromValue for Gone {
 }
 
 /// What the operation of a request would change.
-fn change_by(alloc: Global, operation: Operation, request: &BorrowedValue<'_>) -> Result<Change, FieldFault>
+fn change_by(
+    alloc: Global,
+    operation: Operation,
+    request: &BorrowedValue<'_>,
+) -> Result<Change, FieldFault>
     ensures { Gives (λ x. x) result (change_by operation (view request.now)) }
 {
     match operation {

@@ -7,10 +7,10 @@ ghost use Rattle.explained_lines.specs.Unused.{unread_members, stands_in_spec, s
 ghost use Rattle.explained_lines.specs.Unused.{unused_in, object_of_line, unused_of};
 ghost use Rattle.std.specs.Prelude.{Some};
 
+use json_values::{BorrowedValue, Scratch, read_whole};
 use kube_labels::{Text, TextList};
 use kube_model::{Event, Kind};
 use mlb_base::NoMemory;
-use json_values::{BorrowedValue, Scratch, read_whole};
 use std::alloc::Global;
 
 /// The members of a kind's spec in MetalLB's API reference (v1beta1, and v1beta2 of BGPPeer) that

@@ -1,4 +1,4 @@
-use Rattle.std.proofs.Common.{◌≡◌, not, ◌&&◌, ap, sym, subst, ◌∙◌}
+use Rattle.std.proofs.Common.{not, ◌&&◌, ap, sym, subst, ◌∙◌}
 use Rattle.std.specs.BTreeSet.{contains}
 use Rattle.kube_model.specs.Keys.{key_cmp}
 use Rattle.object_history.specs.Cache.{Cached, cached_after}

@@ -7,8 +7,9 @@
 //! The core keeps that some run led to its state, so that what holds of every run can be a clause
 //! of each of its calls.
 //!
-//! An event of the configuration looks for free keys among all services, since it may queue them
-//! all, and only once both lists have ended.
+//! An event of the configuration looks for free keys among all services only where another
+//! configuration is in force from then on or the core becomes ready, and one of a namespace where
+//! its labels become others.
 #![tactic(auto)]
 
 mod claims;

@@ -1,4 +1,4 @@
-use Rattle.std.proofs.Common.{◌≡◌, ap, refl, sym, subst, ◌∙◌}
+use Rattle.std.proofs.Common.{ap, refl, sym, subst, ◌∙◌}
 use Rattle.std.proofs.lemmas.Slice.Eq.{bytes_eq-Decides}
 use Rattle.std.specs.BTreeSet.{contains}
 use Rattle.kube_model.specs.Keys.{key_cmp}
@@ -21,8 +21,8 @@ queue_and_apply-requires c =
     let more_is = rw (c.services.ensures) at c.in_ok-more.ensures in
     subst (λ more. GoBehind more s.queue) (sym more_is) (free-in-behind c.args.namespace.now s reached)
 
-pub invariant_of-self : goal.invariant_of-self
-invariant_of-self c =
+pub invariant_of-self-2 : goal.invariant_of-self-2
+invariant_of-self-2 c =
     let i = c.self.inside in
     let s : State = record { class = i.class; held = i.cache; claims = i.book.claims; queue = i.queue; awaiting = i.awaiting; out = i.out } in
     let reached : IsReached s = rw (← c.self.view_is) at c.requires.reached in
@@ -41,3 +41,16 @@ invariant_of-self c =
       still-those i.cache c.queue_and_apply.new.cache i.book.entries i.book.entries
           (ap (λ (held : Cached). held.config) held_is ∙ quiet-config event i.cache compiles) refl c.self.invariant.1,
     )
+
+pub returns-clause-ok : goal.returns-clause-ok
+returns-clause-ok c =
+    let i = c.self.inside in
+    let s : State = record { class = i.class; held = i.cache; claims = i.book.claims; queue = i.queue; awaiting = i.awaiting; out = i.out } in
+    let event = c.args.event in
+    let name = c.args.namespace.now in
+    let compiles = rw (← c.self.view_is) at c.requires.compiles in
+    let relabels = rw (← c.self.view_is) at c.requires.relabels in
+    let ready = relabelled-ready s.held (cached_after (Watched event) s.held) name ((bytes_eq-Decides name name).1 refl) relabels in
+    rw (← c.self.view_is)
+    (relabelled-configured s event name c.queue_and_apply.new.cache c.in_ok-more.more.items c.queue_and_apply.new.queue ready
+    c.requires.configures compiles relabels (rw (c.services.ensures) at c.in_ok-more.ensures) c.in_ok-note.ensures.cache c.in_ok-note.ensures.queue)

@@ -1,6 +1,5 @@
 use Rattle.std.proofs.Common.{Bool, sym, ap, ◌∙◌}
 use Rattle.std.proofs.lemmas.Result.{IfOk-weaker}
-use Rattle.alloc_book.specs.declared.choice.Choice.{Choice}
 use Rattle.versioned_map.specs.Objects.{version_at}
 use Rattle.kube_model.specs.Keys.{key_cmp}
 use Rattle.core_rules.specs.Core.{State, has_other}

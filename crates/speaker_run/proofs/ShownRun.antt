@@ -1,10 +1,11 @@
 -- What a run with a responder owes, by how the run of its lanes ended.
-use Rattle.std.proofs.Common.{◌≡◌, ℕ, Bool, List, Option, subst}
+use Rattle.std.proofs.Common.{◌≡◌, ◌⊎◌, ℕ, Bool, List, Option, inl, inr, subst}
 use mathlib.Core.List.{IsPrefix}
 use Rattle.command_options.specs.Lanes.{LaneNames}
 use Rattle.kube_model.specs.declared.event.Event.{Event}
 use Rattle.kube_model.specs.declared.status.Status.{Status}
 use Rattle.kube_model.specs.declared.status.Status.TheVariants.{NoMemory}
+use Rattle.lane_drive.proofs.Carried.{writes_carried}
 use Rattle.lane_drive.specs.Clauses as drive
 use Rattle.lane_drive.specs.Complete.{CompleteOf}
 use Rattle.lane_drive.specs.Files.{FilesState}
@@ -15,18 +16,23 @@ use Rattle.shown_board.specs.Boarded.{Boarded}
 use Rattle.speaker_machine.specs.Lanes.{belongs_to}
 use Rattle.speaker_machine.specs.Stream.{SpeakerState}
 use Rattle.speaker_run.specs.LaneClauses.{opened}
-use Rattle.speaker_run.specs.ResponderClauses.{RespondsSo}
-use Rattle.speaker_run.specs.Responding.{Answering, HasShown, ShownState, shown_rules, unseen, unshown}
+use Rattle.speaker_run.specs.ResponderClauses.{RespondsSo, answering}
+use Rattle.speaker_run.specs.Responding.{Answering, IsAhead, ShownState, StandsShown, shown_rules, unseen, unshown}
 use Rattle.speaker_run.proofs.RespondedRun.{responds_short, responds_shown}
 use Rattle.speaker_run.proofs.RespondedShort.{writes_short}
-use Rattle.speaker_run.proofs.RespondedShown.{published_of_watch, turned_by}
+use Rattle.speaker_run.proofs.RespondedShown.{published_of_watch, shown_carries, turned_by}
 use Rattle.speaker_run.proofs.Unseen.{opens_unseen}
 
 module _ {start : SpeakerState} {files : LaneNames} {bytes : List ℕ → Option (List ℕ)} {unfailing : List ℕ → Bool} {seen seen' : FilesState}
     {input input' : SourceState} {before after : Option (List ℕ)} {writes writes' : ℕ} (s : ShownState) (is : s ≡ unshown start)
     (v w : Answering) (fresh : v ≡ unseen start) (board : Boarded Event)
-    (left : LeavesMachine (turned_by v w) shown_rules s (HasShown board) (bytes files.first) (bytes files.second) (to_come drive.unread input.left)
+    (left : LeavesMachine (turned_by v w) shown_rules s (StandsShown board) (bytes files.first) (bytes files.second) (to_come drive.unread input.left)
     before after) where
+  unshown_left : LeavesMachine (turned_by v w) shown_rules (unshown start) (StandsShown board) (bytes files.first) (bytes files.second)
+      (to_come drive.unread input.left) before after
+  unshown_left = subst (λ (x : ShownState). LeavesMachine (turned_by v w) shown_rules x (StandsShown board) (bytes files.first) (bytes files.second)
+      (to_come drive.unread input.left) before after) is left
+
   -- what was seen begins what is published
   pub run_shown : (status : Status) → IsPrefix w.sight.seen board.published
       → drive.EndOf (turned_by v w) shown_rules s files.first files.second seen seen' (opened bytes unfailing files.first) (opened bytes unfailing files.second)
@@ -38,7 +44,7 @@ module _ {start : SpeakerState} {files : LaneNames} {bytes : List ℕ → Option
       → RespondsSo start files status bytes unfailing seen seen' input input' before after writes writes'
   run_shown status begin ends done only complete =
       responds_shown start files bytes unfailing seen seen' input input' before after writes writes' status v w (opens_unseen start v fresh) board.published
-      (published_of_watch (bytes files.first) (bytes files.second) v w board left.driven left.refused left.sent left.stands) begin
+      (published_of_watch (bytes files.first) (bytes files.second) v w board left.driven left.refused left.sent left.stands.0) begin
       (subst (λ (x : ShownState). drive.EndOf (turned_by v w) shown_rules x files.first files.second seen seen' (opened bytes unfailing files.first)
       (opened bytes unfailing files.second) input input' before after writes writes' status) is ends)
       (subst (λ (x : ShownState). drive.DoneOf (turned_by v w) shown_rules x (bytes files.first) (bytes files.second) status input.left input'.left
@@ -50,10 +56,27 @@ module _ {start : SpeakerState} {files : LaneNames} {bytes : List ℕ → Option
   -- it doesn't, and is more
   pub run_short : IsPrefix board.published w.sight.seen → RespondsSo start files NoMemory bytes unfailing seen seen' input input' before after writes writes'
   run_short begin =
-      let l : LeavesMachine (turned_by v w) shown_rules (unshown start) (HasShown board) (bytes files.first) (bytes files.second)
-      (to_come drive.unread input.left) before after =
-      subst (λ (x : ShownState). LeavesMachine (turned_by v w) shown_rules x (HasShown board) (bytes files.first) (bytes files.second)
-      (to_come drive.unread input.left) before after) is left in
+      let l = unshown_left in
       responds_short start files bytes unfailing seen seen' input input' before after writes writes'
-      (writes_short start (bytes files.first) (bytes files.second) v w (opens_unseen start v fresh) board begin l.driven l.refused l.sent l.stands
+      (writes_short start (bytes files.first) (bytes files.second) v w (opens_unseen start v fresh) board begin l.driven l.refused l.sent l.stands.0
       (to_come drive.unread input.left) before after l.begun l.are)
+
+  -- of what stands written each event is published
+  pub run_ahead : IsPrefix w.sight.seen board.published ⊎ IsPrefix board.published w.sight.seen
+      → (wrote : drive.WritesOf (answering start (bytes files.first)) shown_rules (unshown start) (bytes files.first) (bytes files.second) input.left
+      before after) × IsAhead board wrote.items
+  unfolding writes_carried writes_short
+  run_ahead (inl begin) =
+      let l = unshown_left in
+      let shown = published_of_watch (bytes files.first) (bytes files.second) v w board l.driven l.refused l.sent l.stands.0 in
+      let carries = shown_carries start (bytes files.first) v w (opens_unseen start v fresh) board.published shown begin in (
+        writes_carried (turned_by v w) (answering start (bytes files.first)) carries shown_rules (unshown start) (bytes files.first) (bytes files.second)
+            (to_come drive.unread input.left) before after l.begun,
+        l.stands.1,
+      )
+  run_ahead (inr begin) =
+      let l = unshown_left in (
+        writes_short start (bytes files.first) (bytes files.second) v w (opens_unseen start v fresh) board begin l.driven l.refused l.sent l.stands.0
+            (to_come drive.unread input.left) before after l.begun l.are,
+        l.stands.1,
+      )

@@ -161,10 +161,9 @@ module _ (items : List Item) (item : Item) where
       ((inr more, inr (item.event, one_more board board' shown is)), inr (inr more, inl more))
 
   pub shown_refused : (board board' : Boarded Event) → frame_in item.event ≡ None → StandsShown board items None items
-      → (board'.published ≡ board.published) ⊎ (board' ≡ with_published board item.event)
-      → (before after : Option (List ℕ)) → Grows before after [] ⊎ (board' ≡ with_published board item.event)
+      → (before after : Option (List ℕ))
+      → ((board'.published ≡ board.published) × Grows before after []) ⊎ (board' ≡ with_published board item.event)
       → StandsAs (StandsShown board') items (Some item) before after
-  shown_refused board board' none (shown, ahead) (inl same) before after (inl nothing) =
+  shown_refused board board' none (shown, ahead) before after (inl (same, nothing)) =
       let all = same ∙ shown.0 in ((inl all, inl all), inl nothing)
-  shown_refused board board' none (shown, ahead) (inl same) before after (inr is) = published_refused board board' none shown is before after
-  shown_refused board board' none (shown, ahead) (inr is) before after wrote = published_refused board board' none shown is before after
+  shown_refused board board' none (shown, ahead) before after (inr is) = published_refused board board' none shown is before after

@@ -175,6 +175,6 @@ HasShown board items (Some item) = (board.published ≡ watch_events items) ⊎ 
 abbrev pub IsAhead : Boarded Event → List Item → Type 0
 IsAhead board items = (board.published ≡ watch_events items) ⊎ ((event : Event) × (board.published ≡ watch_events items ++ event ∷ []))
 
--- A beginning of the text of the items of the last list stands written.
+-- So it is after these items, while a beginning of the text of those of the last list stands written.
 abbrev pub StandsShown : Boarded Event → List Item → Option Item → List Item → Type 0
 StandsShown board items refused told = HasShown board items refused × IsAhead board told

@@ -189,9 +189,8 @@ impl<J: Classed, R: BoardWait> ShownSpeaker<'_, J, R> {
             (shown_of self.old.speaker self.old.writer) (item_of lane number event)
             (K.written out.old) (K.written out.new) (K.faults out.old) (K.faults out.new)) }
         ensures published { OnOk result (self.new.writer ≡ with_published self.old.writer event) }
-        ensures shows { OnErr result ((self.new.writer.published ≡ self.old.writer.published)
-            ⊎ (self.new.writer ≡ with_published self.old.writer event)) }
-        ensures ahead { OnErr result (Grows (K.written out.old) (K.written out.new) []
+        ensures ahead { OnErr result (((self.new.writer.published ≡ self.old.writer.published)
+            × Grows (K.written out.old) (K.written out.new) [])
             ⊎ (self.new.writer ≡ with_published self.old.writer event)) }
         ensures later { K.faults out.old ≤ K.faults out.new }
     {

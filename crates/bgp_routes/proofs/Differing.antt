@@ -1,11 +1,12 @@
--- Where a change leaves all at the addresses that it doesn't list but at its nodes, the views before and after differ for another node at those that it
--- lists at most.
+-- Where a change leaves all at the addresses that it doesn't touch but at its nodes, the views before and after differ for another node at those that it
+-- touches at most.
 use Rattle.std.proofs.Common.{◌≡◌, ℕ, ◌+◌, ◌<◌, ◌==◌, suc, false, List, [], ◌∷◌, Contains, refl, sym, ◌∙◌, arith}
 use Rattle.std.proofs.lemmas.Bool.{false≢true, and_right, or_from}
 use Rattle.std.proofs.lemmas.Bool.Decides.{nat_tests}
 use Rattle.ip_ranges.specs.declared.family.Family.TheVariants.{V4}
 use Rattle.ip_ranges.specs.Values.{AddressValue, has_address, same_address, same_family}
 use Rattle.ip_ranges.proofs.AddressLaws.{has_address-from}
+use Rattle.speaker_view.specs.Change.{touched}
 use Rattle.bgp_routes.specs.Differ.{ChangedViewsDiffer}
 
 -- ---- an address that isn't listed
@@ -34,7 +35,7 @@ not-listed addresses there =
 
 pub changed-differ : ChangedViewsDiffer
 changed-differ v w change stay all node other = record {
-  config = sym (stay all (fresh change.addresses) (not-listed change.addresses)).config;
-  labels = sym ((stay all (fresh change.addresses) (not-listed change.addresses)).labels node other);
+  config = sym (stay all (fresh (touched change)) (not-listed (touched change))).config;
+  labels = sym ((stay all (fresh (touched change)) (not-listed (touched change))).labels node other);
   announced = λ a unlisted. sym ((stay all a unlisted).announced node other);
 }

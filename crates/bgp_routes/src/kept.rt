@@ -12,7 +12,7 @@ use crate::kept_config::KeptConfig;
 use crate::told::{all_told, part_told};
 use crate::touching::touch_all;
 use bgp_updates::RouteTable;
-use ip_ranges::{Address, AddressList};
+use ip_ranges::Address;
 use kube_labels::Text;
 use mlb_base::NoMemory;
 use pool_config::CompiledPeer;
@@ -91,14 +91,14 @@ impl KeptRoutes {
 
     /// Makes what is kept right for the view, where it is right for one that differs from it at
     /// these addresses at most. It looks at these addresses alone.
-    pub fn renew(&mut self, view: &View, addresses: &AddressList) -> Result<(), NoMemory>
+    pub fn renew(&mut self, view: &View, addresses: &[Address]) -> Result<(), NoMemory>
         requires { AreKeptBut view.now addresses.now self.old }
         ensures node { self.new.node ≡ self.old.node }
         ensures both { self.new.both ≡ self.old.both }
         ensures ok { OnOk result (AreKeptFor view.now self.new) }
         ensures err { OnErr result (HoldsNone self.new) }
     {
-        match self.touch(view, addresses.as_slice()) {
+        match self.touch(view, addresses) {
             Ok(()) => Ok(()),
             Err(refused) => {
                 self.clear();
@@ -128,7 +128,7 @@ impl KeptRoutes {
     pub fn part_of(
         &self,
         peer: &CompiledPeer,
-        addresses: &AddressList,
+        addresses: &[Address],
     ) -> Result<Option<RouteTable>, NoMemory>
         ensures part { (v : ViewValue) → AreKeptFor v self.now
             → IfOk result (λ found. found ≡ option_map (part_of v addresses.now)
@@ -143,7 +143,7 @@ impl KeptRoutes {
             &self.contributors,
             self.held.advertisements(),
             peer,
-            addresses.as_slice(),
+            addresses,
         )?;
         Ok(Some(table))
     }

@@ -23,7 +23,7 @@ use Rattle.ip_ranges.specs.Values.{AddressValue, same_address}
 use Rattle.ip_ranges.proofs.AddressLaws.{same_address-is, same_address-itself, same_address-flip}
 use Rattle.speaker_view.specs.declared.change.ViewChange.{ViewChange}
 use Rattle.speaker_view.specs.Addresses.{address_cmp}
-use Rattle.speaker_view.specs.Change.{OthersStay}
+use Rattle.speaker_view.specs.Change.{OthersStay, touched}
 use Rattle.speaker_view.specs.Endpoints.{is_recorded_in, recorded_addresses}
 use Rattle.speaker_view.specs.ViewValue.{ViewValue}
 use Rattle.speaker_view.proofs.AddressOrder.{address_cmp-is, same-at}
@@ -282,18 +282,18 @@ kept-among nodes slice keys v a kept same are was =
       };
     }
 
--- where an event leaves all that decides at the addresses that it doesn't list but at its nodes, the announcers were kept
+-- where an event leaves all that decides at the addresses that it doesn't touch but at its nodes, the announcers were kept
 pub were-kept : (entries : Entries) (v w : ViewValue) (change : ViewChange) → AreKeptFor entries v → OthersStay v w change → WereKept change entries w
 were-kept entries v w change kept stay = record { before = v; right = kept; stay = stay }
 
--- at an address that isn't listed
+-- at an address that it doesn't touch
 pub was-kept : (entries : Entries) (w : ViewValue) (change : ViewChange) → WereKept change entries w → change.all ≡ false → (a : AddressValue)
-    → ¬ (Contains change.addresses a) → WasKeptAt change.nodes a (kept_announcer entries a) w
+    → ¬ (Contains (touched change) a) → WasKeptAt change.nodes a (kept_announcer entries a) w
 was-kept entries w change were all a none = record { before = were.before; right = were.right.each a; stays = were.stay all a none }
 
 -- where no nodes changed it is right
 pub right-but : (entries : Entries) (w : ViewValue) (change : ViewChange) → WereKept change entries w → change.all ≡ false → change.nodes ≡ []
-    → AreKeptBut change.addresses entries w
+    → AreKeptBut (touched change) entries w
 right-but entries w change were all nodes a none =
     let was = was-kept entries w change were all a none in
     let still : WasKeptAt [] a (kept_announcer entries a) w =

@@ -26,7 +26,7 @@ pub record AreKeptFor (entries : List (AddressValue × List ℕ)) (v : ViewValue
 abbrev pub AreKeptBut : List AddressValue → List (AddressValue × List ℕ) → ViewValue → Type 0
 AreKeptBut addresses entries v = (a : AddressValue) → ¬ (Contains addresses a) → kept_announcer entries a ≡ announcer_of v a
 
--- The entries were those of a view before, and unless the change may change all, all stays since at each address that it doesn't list, but at its nodes.
+-- The entries were those of a view before, and unless the change may change all, all stays since at each address that it doesn't touch, but at its nodes.
 pub record WereKept (change : ViewChange) (entries : List (AddressValue × List ℕ)) (v : ViewValue) : Type 0 where
   pub before : ViewValue
   pub right : AreKeptFor entries before

@@ -68,12 +68,12 @@ impl Announcers {
     {
         self.clear();
         let addresses = view.addresses()?;
-        let moves = elected_moves(self.alloc, view, &addresses)?;
+        let moves = elected_moves(self.alloc, view, addresses.as_slice())?;
         self.make(moves)
     }
 
     /// The moves that make of the announcers of the view before those of the view. Where all may
-    /// change, and at the addresses that the change lists, the election is held; at the others each
+    /// change, and at the addresses that the change touches, the election is held; at the others each
     /// node that it names costs a hash at most, unless it was the announcer and isn't eligible any
     /// more.
     pub fn moves(&self, view: &View, change: &ViewChange) -> Result<MoveList, NoMemory>
@@ -84,9 +84,9 @@ impl Announcers {
             return self.all_moves(view);
         }
         if change.nodes.is_empty() {
-            return elected_moves(self.alloc, view, &change.addresses);
+            return elected_moves(self.alloc, view, change.touched());
         }
-        if !change.addresses.is_empty() {
+        if !change.touched().is_empty() {
             // No event changes both.
             return self.all_moves(view);
         }
@@ -146,7 +146,7 @@ impl Announcers {
         ensures { IfOk result (λ moves. AreMoves moves self.now view.now) }
     {
         let addresses = self.all_addresses(view)?;
-        elected_moves(self.alloc, view, &addresses)
+        elected_moves(self.alloc, view, addresses.as_slice())
     }
 
     /// The addresses that services record, and the others for which an announcer is held.

@@ -7,7 +7,7 @@ ghost use Rattle.l2_elect.specs.Kept.{move_to};
 
 use crate::election::{Candidate, best};
 use crate::winner::Winner;
-use ip_ranges::{Address, AddressList};
+use ip_ranges::Address;
 use mlb_base::{NoMemory, Sequence};
 use speaker_view::View;
 use std::alloc::Global;
@@ -52,12 +52,12 @@ impl Move {
 pub fn elected_moves(
     alloc: Global,
     view: &View,
-    addresses: &AddressList,
+    addresses: &[Address],
 ) -> Result<MoveList, NoMemory>
     ensures { IfOk result (λ moves. moves ≡ map (move_to view.now) addresses.now) }
 {
     let mut moves = MoveList::new(alloc);
-    for address in addresses.as_slice() {
+    for address in addresses {
         moves.push(Move::to(address, best(view, address))?)?;
     }
     Ok(moves)

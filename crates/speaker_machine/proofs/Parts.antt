@@ -15,7 +15,7 @@ use Rattle.mlb_base.specs.Items.{IsIn}
 use Rattle.pool_config.specs.ConfigValue.{ConfigValue}
 use Rattle.pool_config.specs.declared.compiled.CompiledPeer.{CompiledPeer}
 use Rattle.speaker_view.specs.declared.change.ViewChange.{ViewChange}
-use Rattle.speaker_view.specs.Change.{OthersStay}
+use Rattle.speaker_view.specs.Change.{OthersStay, touched}
 use Rattle.speaker_view.specs.ViewValue.{ViewValue}
 use Rattle.bgp_updates.specs.declared.route.Terms.{Terms}
 use Rattle.bgp_updates.specs.Between.{HasHops, messages_between, peering_of}
@@ -70,7 +70,7 @@ module _ (v : ViewValue) (node : List ℕ) (both : Bool) where
 -- a part of what is found is found
 part-none : (change : ViewChange) (v : ViewValue) → changed_part change v [] ≡ []
 part-none change v = by_all change.all where
-  by_all : (all : Bool) → cond all [] (part_of v change.addresses []) ≡ []
+  by_all : (all : Bool) → cond all [] (part_of v (touched change) []) ≡ []
   by_all true = refl
   by_all false = refl
 
@@ -82,39 +82,39 @@ part-found change v (Some table) = refl
 -- ---- what is told of the parts
 
 module _ (change : ViewChange) (u v : ViewValue) (node : List ℕ) (hops : NextHops)
-    (differs : change.all ≡ false → DiffersAt u v node change.addresses) (names : NamesAscend (peers_of v)) (few : HasFewInForce v) where
+    (differs : change.all ≡ false → DiffersAt u v node (touched change)) (names : NamesAscend (peers_of v)) (few : HasFewInForce v) where
   abbrev both : Bool
   both = both_with hops
 
   abbrev told : CompiledPeer → Routes → Routes → List TranscriptEntry
   told peer before after = map (updated peer) (messages_between (peering_of peer hops.v4 hops.v6) before after)
 
-  same-touched : DiffersAt u v node change.addresses → (table : Routes) → part_of u change.addresses table ≡ part_of v change.addresses table
+  same-touched : DiffersAt u v node (touched change) → (table : Routes) → part_of u (touched change) table ≡ part_of v (touched change) table
   same-touched d table =
       ap (λ (config : Option ConfigValue). filter (λ (route : PrefixValue × Terms).
-      list_any (λ a. list_any (λ adv. same_prefix route.0 (prefix_under adv a)) (bgp_in config)) change.addresses) table) d.config
+      list_any (λ a. list_any (λ adv. same_prefix route.0 (prefix_under adv a)) (bgp_in config)) (touched change)) table) d.config
 
-  cut-told : DiffersAt u v node change.addresses → (peer : CompiledPeer) → IsIn (peers_of v) peer
-      → told peer (part_of u change.addresses (table_of u node both peer)) (part_of v change.addresses (table_of v node both peer))
+  cut-told : DiffersAt u v node (touched change) → (peer : CompiledPeer) → IsIn (peers_of v) peer
+      → told peer (part_of u (touched change) (table_of u node both peer)) (part_of v (touched change) (table_of v node both peer))
       ≡ told peer (table_of u node both peer) (routes_of v node peer both)
   cut-told d peer there =
       let names_u : NamesAscend (peers_of u) = subst (λ (config : Option ConfigValue). NamesAscend (peers_in config)) (sym d.config) names in
       let there_u : IsIn (peers_of u) peer = subst (λ (config : Option ConfigValue). IsIn (peers_in config) peer) (sym d.config) there in
       let before : table_of u node both peer ≡ routes_of u node peer both = own-table u node both names_u peer there_u in
       let after : table_of v node both peer ≡ routes_of v node peer both = own-table v node both names peer there in
-      ap (λ (part : Routes). told peer part (part_of v change.addresses (table_of v node both peer)))
-      (same-touched d (table_of u node both peer) ∙ ap (part_of v change.addresses) before)
-      ∙ ap (λ (table : Routes). told peer (part_of v change.addresses (routes_of u node peer both)) (part_of v change.addresses table)) after
-      ∙ ap (map (updated peer)) (parts-tell (peering_of peer hops.v4 hops.v6) (is_touched v change.addresses) (routes_of u node peer both)
+      ap (λ (part : Routes). told peer part (part_of v (touched change) (table_of v node both peer)))
+      (same-touched d (table_of u node both peer) ∙ ap (part_of v (touched change)) before)
+      ∙ ap (λ (table : Routes). told peer (part_of v (touched change) (routes_of u node peer both)) (part_of v (touched change) table)) after
+      ∙ ap (map (updated peer)) (parts-tell (peering_of peer hops.v4 hops.v6) (is_touched v (touched change)) (routes_of u node peer both)
       (routes_of v node peer both) (apart u node both peer) (apart v node both peer)
-      (λ p beside. others-agree u v node change.addresses d few peer both p beside))
+      (λ p beside. others-agree u v node (touched change) d few peer both p beside))
       ∙ ap (λ (table : Routes). told peer table (routes_of v node peer both)) (sym before)
 
   part-told : (peer : CompiledPeer) → IsIn (peers_of v) peer → part_updates change u v node hops peer ≡ updates_to u v node hops peer
   part-told peer there = by_all change.all differs where
-    by_all : (all : Bool) → (all ≡ false → DiffersAt u v node change.addresses)
-        → told peer (cond all (table_of u node both peer) (part_of u change.addresses (table_of u node both peer)))
-        (cond all (table_of v node both peer) (part_of v change.addresses (table_of v node both peer)))
+    by_all : (all : Bool) → (all ≡ false → DiffersAt u v node (touched change))
+        → told peer (cond all (table_of u node both peer) (part_of u (touched change) (table_of u node both peer)))
+        (cond all (table_of v node both peer) (part_of v (touched change) (table_of v node both peer)))
         ≡ told peer (table_of u node both peer) (routes_of v node peer both)
     by_all true d = ap (λ (table : Routes). told peer (table_of u node both peer) table) (own-table v node both names peer there)
     by_all false d = cut-told (d refl) peer there
@@ -147,8 +147,8 @@ part-v4 change v node peer =
     let table = table_of v node false peer in
     let all : AllByRecursion IsOfIpv4 table = table-v4 v node (find (is_one_peer peer) (peers_of v)) in
     All-from_recursion IsOfIpv4 (part_at change v node false peer)
-    (cond_both change.all table (part_of v change.addresses table) (AllByRecursion IsOfIpv4) (λ _. all)
-    (λ _. filter-all (λ route. is_touched v change.addresses route.0) table all))
+    (cond_both change.all table (part_of v (touched change) table) (AllByRecursion IsOfIpv4) (λ _. all)
+    (λ _. filter-all (λ route. is_touched v (touched change) route.0) table all))
 
 hops-by : (o : Option AddressValue) (table : Routes) → is_v6 o ≡ true → (is_some o ≡ false → AreV4 table) → HasHops o table
 hops-by None table six alone = alone refl

@@ -4,6 +4,7 @@ use Rattle.ip_ranges.specs.Values.{PrefixValue}
 use Rattle.kube_labels.specs.Names.{has_text}
 use Rattle.pool_config.specs.declared.compiled.CompiledPeer.{CompiledPeer}
 use Rattle.speaker_view.specs.declared.change.ViewChange.{ViewChange}
+use Rattle.speaker_view.specs.Change.{touched}
 use Rattle.speaker_view.specs.ViewValue.{ViewValue}
 use Rattle.bgp_updates.specs.declared.route.Terms.{Terms}
 use Rattle.bgp_updates.specs.Between.{peering_of, messages_between}
@@ -36,10 +37,10 @@ abbrev pub AreRoutesKnown : Option KeptValue → ViewValue → LocalNode → Typ
 AreRoutesKnown None v local = ⊤
 AreRoutesKnown (Some kept) v local = AreRoutesOf kept v local
 
--- The routes were right for the view before, which differs from the view after at the listed addresses at most, unless all may have changed.
+-- The routes were right for the view before, which differs from the view after at the addresses that the change touches at most, unless all may have changed.
 pub record WereKept (change : ViewChange) (kept : KeptValue) (before after : ViewValue) : Type 0 where
   pub right : AreKeptFor before kept
-  pub differs : change.all ≡ false → DiffersAt before after kept.node change.addresses
+  pub differs : change.all ≡ false → DiffersAt before after kept.node (touched change)
 
 -- so it is where there is a next hop
 abbrev pub WereKeptWith : Option NextHops → ViewChange → KeptValue → ViewValue → ViewValue → Type 0
@@ -58,7 +59,7 @@ of_node node change = record change { all = change.all || has_text change.nodes 
 
 -- what of the table the change may have changed
 abbrev pub changed_part : ViewChange → ViewValue → List (PrefixValue × Terms) → List (PrefixValue × Terms)
-changed_part change v table = if change.all then table else part_of v change.addresses table
+changed_part change v table = if change.all then table else part_of v (touched change) table
 
 -- the same of the peer's table by the view
 abbrev pub part_at : ViewChange → ViewValue → List ℕ → Bool → CompiledPeer → List (PrefixValue × Terms)

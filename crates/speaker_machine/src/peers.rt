@@ -54,8 +54,8 @@ fn rebuilt(view: &View, mut kept: KeptRoutes) -> Result<KeptRoutes, NoMemory>
 }
 
 /// Makes the routes those of the view, where they are so already but for what the change may have
-/// changed, and tells the peers what that changes of their tables: of the parts at the listed
-/// addresses, unless all may have changed. After an error nothing is known of the routes.
+/// changed, and tells the peers what that changes of their tables: of the parts at the
+/// addresses that it touches, unless all may have changed. After an error nothing is known of the routes.
 pub(crate) fn renew_routes(
     alloc: Global,
     entries: &mut Sequence<TranscriptEntry>,
@@ -96,7 +96,7 @@ fn is_v6(hop: Option<Address>) -> bool
     }
 }
 
-/// Makes them those of the view: at the listed addresses alone, unless all may have changed.
+/// Makes them those of the view: at the addresses that the change touches alone, unless all may have changed.
 fn renew_kept(view: &View, change: &ViewChange, kept: &mut KeptRoutes) -> Result<(), NoMemory>
     requires { (before : ViewValue) × WereKept change.now kept.old before view.now }
     ensures node { kept.new.node ≡ kept.old.node }
@@ -106,7 +106,7 @@ fn renew_kept(view: &View, change: &ViewChange, kept: &mut KeptRoutes) -> Result
     if change.all {
         return kept.rebuild(view);
     }
-    kept.renew(view, &change.addresses)
+    kept.renew(view, change.touched())
 }
 
 /// The same, and tells the peers what it changes.
@@ -190,7 +190,7 @@ fn found_part(
     if change.all {
         return kept.table_of(peer);
     }
-    kept.part_of(peer, &change.addresses)
+    kept.part_of(peer, change.touched())
 }
 
 /// Tells each peer what makes the part that is kept now of the one that was.

@@ -1,6 +1,6 @@
 -- A test of the held objects answers as before where it fails at the one that was held under the key and at the one that is now.
 use Rattle.std.proofs.Common.{◌≡◌, ℕ, Bool, true, false, cond, not, eqb, ◌||◌, leb, List, [], ◌∷◌, Option, Some, None}
-use Rattle.std.proofs.Common.{Ordering, Less, Equal, Greater, is_eq, refl, ap, ◌∙◌}
+use Rattle.std.proofs.Common.{Ordering, Less, Equal, Greater, is_eq, refl, sym, ap, ◌∙◌}
 use Rattle.std.specs.Ordering.{match_ordering}
 use Rattle.std.specs.List.{list_any, Contains}
 use Rattle.mlb_base.proofs.Among.{contains-first, contains-later}
@@ -39,6 +39,47 @@ module _ {K T : Type 0} (cmp : K → K → Ordering) (test : T → Bool) where
       → any (insert_entry cmp entries key held) ≡ any entries
   any-inserted [] key held new old = rw new refl
   any-inserted (e ∷ entries) key held new old = inserted_by (cmp key e.0) key held e entries new old (any-inserted entries key held new)
+
+  -- where an object is held that passes, some does
+  or_again : (first rest : Bool) → (first || (first || rest)) ≡ (first || rest)
+  or_again true rest = refl
+  or_again false rest = refl
+
+  or_later : (test first rest : Bool) → (test || rest) ≡ rest → (test || (first || rest)) ≡ (first || rest)
+  or_later true true rest is = refl
+  or_later false first rest is = refl
+  or_later true false rest is = is
+
+  held_by : (at : Bool) (key : K) (object : T) (e : K × Versioned T) (entries : Entries)
+      → option_map (λ h. h.object) (cond at (Some e.1) (lookup (is_at (cmp key)) entries)) ≡ Some object
+      → (object_at cmp entries key ≡ Some object → (test object || any entries) ≡ any entries)
+      → (test object || any (e ∷ entries)) ≡ any (e ∷ entries)
+  held_by true key object e entries is rest =
+      let same : e.1.object ≡ object = cc in
+      ap (λ (o : T). test o || any (e ∷ entries)) (sym same) ∙ or_again (test e.1.object) (any entries)
+  held_by false key object e entries is rest = or_later (test object) (test e.1.object) (any entries) (rest is)
+
+  any-held : (entries : Entries) (key : K) (object : T) → object_at cmp entries key ≡ Some object → (test object || any entries) ≡ any entries
+  any-held [] key object is = absurd (cc)
+  any-held (e ∷ entries) key object is = held_by (is_eq (cmp key e.0)) key object e entries is (any-held entries key object)
+
+  again_by : (r : Ordering) (key : K) (held : Versioned T) (e : K × Versioned T) (entries : Entries)
+      → option_map (λ h. h.object) (cond (is_eq r) (Some e.1) (lookup (is_at (cmp key)) entries)) ≡ Some held.object
+      → (test held.object || any (e ∷ entries)) ≡ any (e ∷ entries)
+      → (object_at cmp entries key ≡ Some held.object → any (insert_entry cmp entries key held) ≡ any entries)
+      → any (match_ordering r ((key, held) ∷ e ∷ entries) ((e.0, held) ∷ entries) (e ∷ insert_entry cmp entries key held)) ≡ any (e ∷ entries)
+  again_by Less key held e entries is passes rest = passes
+  again_by Equal key held e entries is passes rest =
+      let same : e.1.object ≡ held.object = cc in
+      ap (λ (o : T). test o || any entries) (sym same)
+  again_by Greater key held e entries is passes rest = ap (λ b. test e.1.object || b) (rest is)
+
+  -- the object was shown that is held
+  pub any-again : (entries : Entries) (key : K) (held : Versioned T) → object_at cmp entries key ≡ Some held.object
+      → any (insert_entry cmp entries key held) ≡ any entries
+  any-again [] key held is = absurd (cc)
+  any-again (e ∷ entries) key held is =
+      again_by (cmp key e.0) key held e entries is (any-held (e ∷ entries) key held.object is) (any-again entries key held)
 
   shown_by : (passed : Bool) (entries inserted : Entries) → any inserted ≡ any entries → any (cond passed entries inserted) ≡ any entries
   shown_by true entries inserted same = refl

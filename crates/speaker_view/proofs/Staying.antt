@@ -1,7 +1,12 @@
 -- At an address that an event doesn't list, all stays that decides who may announce it.
 use Rattle.std.proofs.Common.{◌≡◌, ℕ, Bool, true, false, cond, ◌&&◌, leb, not, List, [], ◌∷◌, Option, Some, None}
 use Rattle.std.proofs.Common.{◌++◌, inl, inr, Contains, filter, Result, Ok, Err, refl, sym, ap, ◌∙◌, subst}
-use Rattle.std.proofs.lemmas.Bool.{true≢false, false_from_ne_true}
+use Rattle.std.proofs.lemmas.Bool.{and_parts, true≢false, false≢true, false_from_ne_true}
+use Rattle.std.proofs.lemmas.Slice.Eq.{bytes_eq-Decides}
+use Rattle.std.specs.Bool.{beq}
+use Rattle.std.specs.Cmp.Lexicographic.{pointwise}
+use Rattle.std.specs.Option.{option_eq}
+use Rattle.std.specs.Str.{bytes_eq}
 use Rattle.std.proofs.lemmas.List.Elements.{Contains-append_left, Contains-append_right}
 use Rattle.std.specs.List.{flat_map, list_any}
 use Rattle.std.specs.BTreeMap.{insert_entry}
@@ -10,7 +15,7 @@ use Rattle.mlb_base.proofs.Lists.{filter-keeps}
 use Rattle.ip_ranges.specs.Values.{AddressValue, has_address}
 use Rattle.ip_ranges.proofs.AddressLaws.{has_address-is, has_address-from}
 use Rattle.kube_labels.specs.Names.{name_cmp}
-use Rattle.kube_model.specs.Keys.{key_cmp}
+use Rattle.kube_model.specs.Keys.{key_cmp, same_key}
 use Rattle.kube_model.specs.Service.{is_handled}
 use Rattle.kube_model.specs.declared.config_fault.ConfigFault.{ConfigFault}
 use Rattle.kube_model.specs.declared.event.Event.{Event}
@@ -21,6 +26,7 @@ use Rattle.kube_model.specs.declared.node.Node.{Node}
 use Rattle.kube_model.specs.declared.object.Kind.TheVariants as kinds
 use Rattle.kube_model.specs.declared.object.Object.TheVariants as objects
 use Rattle.kube_model.specs.declared.service.Service.{Service}
+use Rattle.kube_model.specs.declared.slice.Endpoint.{Endpoint}
 use Rattle.kube_model.specs.declared.slice.EndpointSlice.{EndpointSlice}
 use Rattle.object_cache.specs.Change.{note_in, note_of}
 use Rattle.object_history.specs.Cache.{compiles, in_force, objects_after}
@@ -32,13 +38,14 @@ use Rattle.versioned_map.specs.declared.map.Versioned.{Versioned}
 use Rattle.versioned_map.specs.Objects.{listed, object_at, version_at}
 use Rattle.speaker_view.specs.declared.change.ViewChange.{ViewChange}
 use Rattle.speaker_view.specs.Change.{changed_addresses, is_accepted, is_unlisted, recorded_at, recorded_by, served_at, served_by}
-use Rattle.speaker_view.specs.Change.{shown_addresses, unlisted_addresses, IsChangeOf, OthersStay, UnchangedAddressesStay}
+use Rattle.speaker_view.specs.Change.{is_held_slice, same_endpoint, same_slice, shown_addresses, shows_again, unlisted_addresses}
+use Rattle.speaker_view.specs.Change.{IsChangeOf, OthersStay, UnchangedAddressesStay}
 use Rattle.speaker_view.specs.Endpoints.{allows_balancers, announced_from, can_announce, endpoint_for, is_slice_of, labels_of, node_labels, slice_serves}
 use Rattle.speaker_view.specs.Held.{objects_of}
 use Rattle.speaker_view.specs.View.{note_by, view_after}
 use Rattle.speaker_view.specs.ViewValue.{ViewValue}
 use Rattle.speaker_view.proofs.AddressOrder.{has-distinct}
-use Rattle.speaker_view.proofs.Objects.{Fails, any-each, any-inserted, any-listed, any-removed, objects_of-expired, object_at-expired}
+use Rattle.speaker_view.proofs.Objects.{Fails, any-again, any-each, any-inserted, any-listed, any-removed, objects_of-expired, object_at-expired}
 
 hasnt_address : (addresses : List AddressValue) (a : AddressValue) → ¬ (Contains addresses a) → has_address addresses a ≡ false
 hasnt_address addresses a none = false_from_ne_true (has_address addresses a) (λ e. none (has_address-is addresses a e))
@@ -59,6 +66,51 @@ config-stays true objects before (Ok config) is e =
     absurd (true≢false (sym accepted ∙ e))
 config-stays true objects before (Err fault) is e = refl
 config-stays false objects before r is e = refl
+
+-- ---- slices that are told to be the same are
+same_nodes : (m n : Option (List ℕ)) → option_eq bytes_eq m n ≡ true → m ≡ n
+same_nodes None None e = refl
+same_nodes None (Some n) e = absurd (false≢true e)
+same_nodes (Some m) None e = absurd (false≢true e)
+same_nodes (Some m) (Some n) e = ap (λ (name : List ℕ). Some name) ((bytes_eq-Decides m n).0 e)
+
+same_flags : (a b : Bool) → beq a b ≡ true → a ≡ b
+same_flags true true e = refl
+same_flags true false e = absurd (false≢true e)
+same_flags false true e = absurd (false≢true e)
+same_flags false false e = refl
+
+same-endpoint : (a b : Endpoint) → same_endpoint a b ≡ true → a ≡ b
+same-endpoint a b e =
+    let parts = and_parts (option_eq bytes_eq a.node b.node) (beq a.usable b.usable) e in
+    let node = same_nodes a.node b.node parts.0 in
+    let usable = same_flags a.usable b.usable parts.1 in
+    λ i. record { node = node i; usable = usable i }
+
+same-endpoints : (xs ys : List Endpoint) → pointwise same_endpoint xs ys ≡ true → xs ≡ ys
+same-endpoints [] [] e = refl
+same-endpoints [] (y ∷ ys) e = absurd (false≢true e)
+same-endpoints (x ∷ xs) [] e = absurd (false≢true e)
+same-endpoints (x ∷ xs) (y ∷ ys) e =
+    let parts = and_parts (same_endpoint x y) (pointwise same_endpoint xs ys) e in
+    let first = same-endpoint x y parts.0 in
+    let rest = same-endpoints xs ys parts.1 in
+    λ i. first i ∷ rest i
+
+same-slice : (a b : EndpointSlice) → same_slice a b ≡ true → a ≡ b
+same-slice a b e =
+    let parts = and_parts (same_key a.key b.key) (bytes_eq a.service b.service && pointwise same_endpoint a.endpoints b.endpoints) e in
+    let later = and_parts (bytes_eq a.service b.service) (pointwise same_endpoint a.endpoints b.endpoints) parts.1 in
+    let names = and_parts (bytes_eq a.key.namespace b.key.namespace) (bytes_eq a.key.name b.key.name) parts.0 in
+    let namespace = (bytes_eq-Decides a.key.namespace b.key.namespace).0 names.0 in
+    let name = (bytes_eq-Decides a.key.name b.key.name).0 names.1 in
+    let service = (bytes_eq-Decides a.service b.service).0 later.0 in
+    let endpoints = same-endpoints a.endpoints b.endpoints later.1 in
+    λ i. record { key = record { namespace = namespace i; name = name i }; service = service i; endpoints = endpoints i }
+
+held-slice : (held : Option EndpointSlice) (slice : EndpointSlice) → is_held_slice held slice ≡ true → held ≡ Some slice
+held-slice None slice e = absurd (false≢true e)
+held-slice (Some held) slice e = ap (λ (s : EndpointSlice). Some s) (same-slice held slice e)
 
 module _ (v : ViewValue) where
   module _ (a : AddressValue) (node : List ℕ) where
@@ -134,6 +186,40 @@ module _ (v : ViewValue) where
         any-each (λ (s : Service). has_address s.holding.addresses a && can_announce w s node) announces (objects_of v.held.services) (λ service held.
         same_where w service (has_address service.holding.addresses a) refl (λ recorded.
         slices-shown (leb version (version_at key_cmp v.held.slices slice.key)) version slice service held recorded none))
+
+    -- a slice is shown that is the held one
+    slice_again : (passed : Bool) (version : ℕ) (slice : EndpointSlice) (service : Service) → object_at key_cmp v.held.slices slice.key ≡ Some slice
+        → list_any (slice_serves service.key service.policy node)
+        (objects_of (cond passed v.held.slices (insert_entry key_cmp v.held.slices slice.key (record { version = version; object = slice }))))
+        ≡ endpoint_for v service node
+    slice_again true version slice service is = refl
+    slice_again false version slice service is =
+        any-again key_cmp (slice_serves service.key service.policy node) v.held.slices slice.key (record { version = version; object = slice }) is
+
+    slice-again : (version : ℕ) (slice : EndpointSlice) → object_at key_cmp v.held.slices slice.key ≡ Some slice
+        → announced_from (view_after (Changed version (objects.Slice slice)) v) a node ≡ announced_from v a node
+    slice-again version slice is =
+        let w = view_after (Changed version (objects.Slice slice)) v in
+        any-each (λ (s : Service). has_address s.holding.addresses a && can_announce w s node) announces (objects_of v.held.services) (λ service held.
+        same_where w service (has_address service.holding.addresses a) refl (λ recorded.
+        slice_again (leb version (version_at key_cmp v.held.slices slice.key)) version slice service is))
+
+    announced-again : (event : Event) → shows_again v event ≡ true → announced_from (view_after event v) a node ≡ announced_from v a node
+    announced-again (Changed version (objects.Slice slice)) again = slice-again version slice (held-slice (object_at key_cmp v.held.slices slice.key) slice again)
+    announced-again (Changed version (objects.Service service)) again = absurd (false≢true again)
+    announced-again (Changed version (objects.Node shown)) again = absurd (false≢true again)
+    announced-again (Changed version (objects.Pool pool)) again = absurd (false≢true again)
+    announced-again (Changed version (objects.L2 adv)) again = absurd (false≢true again)
+    announced-again (Changed version (objects.Bgp adv)) again = absurd (false≢true again)
+    announced-again (Changed version (objects.Peer peer)) again = absurd (false≢true again)
+    announced-again (Changed version (objects.Community community)) again = absurd (false≢true again)
+    announced-again (Changed version (objects.Namespace namespace)) again = absurd (false≢true again)
+    announced-again (Deleted kind key) again = absurd (false≢true again)
+    announced-again (ListEnd group) again = absurd (false≢true again)
+    announced-again Expired again = absurd (false≢true again)
+    announced-again (Members names) again = absurd (false≢true again)
+    announced-again (Frame interface bytes) again = absurd (false≢true again)
+    announced-again Ignored again = absurd (false≢true again)
 
     slice-deleted : (key : Key) → ¬ (Contains (served_at v key) a) → announced_from (view_after (Deleted kinds.Slice key) v) a node ≡ announced_from v a node
     slice-deleted key none =
@@ -217,20 +303,28 @@ module _ (v : ViewValue) where
     announced-stays Ignored same none = refl
 
 pub unchanged_addresses_stay : UnchangedAddressesStay
-unchanged_addresses_stay v event change is unset a unlisted =
+unchanged_addresses_stay v event change is unset a untouched =
     let held = objects_after (Watched event) v.held.objects in
-    let none : ¬ (Contains (changed_addresses v event) a) = λ there.
-    unlisted (has_address-is change.addresses a
-    (ap (λ (addresses : List AddressValue). has_address addresses a) is.addresses
-    ∙ has-distinct (changed_addresses v event) a ∙ has_address-from (changed_addresses v event) a there)) in
     record {
       class = refl;
       config = config-stays (compiles v.held.objects v.held.config_ended (Watched event)) held v.held.config (compiled held) refl
           (sym is.all ∙ unset);
       members = λ node other. (is.nodes.others node other).member;
       labels = λ node other. (is.nodes.others node other).labels;
-      announced = λ node other. announced-stays v a node event (is.nodes.others node other).labels none;
+      announced = λ node other. by change.again refl node (is.nodes.others node other).labels;
     }
+  where
+    listed : Contains (changed_addresses v event) a → Contains change.addresses a
+    listed there =
+        has_address-is change.addresses a
+        (ap (λ (addresses : List AddressValue). has_address addresses a) is.addresses
+        ∙ has-distinct (changed_addresses v event) a ∙ has_address-from (changed_addresses v event) a there)
+
+    by : (again : Bool) → change.again ≡ again → (node : List ℕ) → node_labels (view_after event v) node ≡ node_labels v node
+        → announced_from (view_after event v) a node ≡ announced_from v a node
+    by true again node labels = announced-again v a node event (sym is.again ∙ again)
+    by false again node labels =
+        announced-stays v a node event labels (λ there. untouched (rw again (listed there)))
 
 -- so it is where the view after is that of the event
 pub others-stay : (v w : ViewValue) (event : Event) (change : ViewChange) → w ≡ view_after event v → IsChangeOf v event change → OthersStay v w change

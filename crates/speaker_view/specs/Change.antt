@@ -1,8 +1,12 @@
 -- What an event changes of what nodes announce.
-use Rattle.std.specs.Prelude.{◌≡◌, ◌↔◌, ℕ, Bool, true, false, ◌==◌, if◌then◌else◌, List, [], ◌++◌, filter, Contains, Option, Some, None}
+use Rattle.std.specs.Prelude.{◌≡◌, ◌↔◌, ℕ, Bool, true, false, ◌==◌, ◌&&◌, if◌then◌else◌, List, [], ◌++◌, filter, Contains, Option, Some, None}
+use Rattle.std.specs.Bool.{beq}
+use Rattle.std.specs.Cmp.Lexicographic.{pointwise}
 use Rattle.std.specs.List.{flat_map}
+use Rattle.std.specs.Option.{option_eq}
+use Rattle.std.specs.Str.{bytes_eq}
 use Rattle.ip_ranges.specs.Values.{AddressValue}
-use Rattle.kube_model.specs.Keys.{key_cmp}
+use Rattle.kube_model.specs.Keys.{key_cmp, same_key}
 use Rattle.kube_model.specs.declared.event.Event.{Event}
 use Rattle.kube_model.specs.declared.event.Event.TheVariants.{Changed, Deleted, ListEnd, Expired, Members, Frame, Ignored}
 use Rattle.kube_model.specs.declared.event.ListGroup.{ListGroup}
@@ -13,6 +17,7 @@ use Rattle.kube_model.specs.declared.object.Kind.TheVariants as kinds
 use Rattle.kube_model.specs.declared.object.Object.{Object}
 use Rattle.kube_model.specs.declared.object.Object.TheVariants as objects
 use Rattle.kube_model.specs.declared.service.Service.{Service}
+use Rattle.kube_model.specs.declared.slice.Endpoint.{Endpoint}
 use Rattle.kube_model.specs.declared.slice.EndpointSlice.{EndpointSlice}
 use Rattle.object_cache.specs.declared.change.TakeNote.{TakeNote}
 use Rattle.object_cache.specs.declared.change.TakeNote.TheVariants.{Quiet, Accepted, Refused}
@@ -97,11 +102,51 @@ changed_addresses v (Members names) = []
 changed_addresses v (Frame interface bytes) = []
 changed_addresses v Ignored = []
 
+-- ---- but where an endpoint slice is shown as it is held, nothing is announced otherwise at these either
+-- the endpoints are on one node, if on any, and both are usable or neither is
+abbrev pub same_endpoint : Endpoint → Endpoint → Bool
+same_endpoint a b = option_eq bytes_eq a.node b.node && beq a.usable b.usable
+
+-- the slices have one key, are of one service, and have the same endpoints in the same order
+abbrev pub same_slice : EndpointSlice → EndpointSlice → Bool
+same_slice a b = same_key a.key b.key && (bytes_eq a.service b.service && pointwise same_endpoint a.endpoints b.endpoints)
+
+-- the slice is the held one, if one is held
+abbrev pub is_held_slice : Option EndpointSlice → EndpointSlice → Bool
+is_held_slice None slice = false
+is_held_slice (Some held) slice = same_slice held slice
+
+abbrev pub is_shown_again : ViewValue → Object → Bool
+is_shown_again v (objects.Slice slice) = is_held_slice (object_at key_cmp v.held.slices slice.key) slice
+is_shown_again v (objects.Service service) = false
+is_shown_again v (objects.Pool pool) = false
+is_shown_again v (objects.L2 adv) = false
+is_shown_again v (objects.Bgp adv) = false
+is_shown_again v (objects.Peer peer) = false
+is_shown_again v (objects.Community community) = false
+is_shown_again v (objects.Namespace namespace) = false
+is_shown_again v (objects.Node node) = false
+
+-- the event shows an endpoint slice as it is held
+abbrev pub shows_again : ViewValue → Event → Bool
+shows_again v (Changed version object) = is_shown_again v object
+shows_again v (Deleted kind key) = false
+shows_again v (ListEnd group) = false
+shows_again v Expired = false
+shows_again v (Members names) = false
+shows_again v (Frame interface bytes) = false
+shows_again v Ignored = false
+
+-- the addresses at which what is announced may be other than before, unless all may be
+abbrev pub touched : ViewChange → List AddressValue
+touched change = if change.again then [] else change.addresses
+
 -- What an event changes: anything where a configuration is accepted, else what is announced at these addresses, and from these nodes.
 pub record IsChangeOf (v : ViewValue) (event : Event) (change : ViewChange) : Type 0 where
   pub all : change.all ≡ is_accepted (note_by v event)
   pub nodes : AreChangedNodes v (view_after event v) change.nodes
   pub addresses : change.addresses ≡ keys_with address_cmp [] (changed_addresses v event)
+  pub again : change.again ≡ shows_again v event
 
 -- ---- what stays
 -- At the address all is as it was that decides who may announce it and by which advertisements: the configuration in force, and but for these
@@ -113,9 +158,9 @@ pub record StaysAt (v w : ViewValue) (nodes : List (List ℕ)) (a : AddressValue
   pub labels : (node : List ℕ) → ¬ (Contains nodes node) → node_labels w node ≡ node_labels v node
   pub announced : (node : List ℕ) → ¬ (Contains nodes node) → announced_from w a node ≡ announced_from v a node
 
--- where an event doesn't change all, so it is at each address that isn't listed
+-- where an event doesn't change all, so it is at each address that it doesn't touch
 abbrev pub OthersStay : ViewValue → ViewValue → ViewChange → Type 0
-OthersStay v w change = change.all ≡ false → (a : AddressValue) → ¬ (Contains change.addresses a) → StaysAt v w change.nodes a
+OthersStay v w change = change.all ≡ false → (a : AddressValue) → ¬ (Contains (touched change) a) → StaysAt v w change.nodes a
 
 abbrev pub UnchangedAddressesStay : Type 0
 UnchangedAddressesStay = (v : ViewValue) (event : Event) (change : ViewChange) → IsChangeOf v event change → OthersStay v (view_after event v) change

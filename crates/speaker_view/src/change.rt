@@ -3,12 +3,14 @@ ghost use Rattle.std.specs.Prelude.{◌≡◌, ◌++◌, ◌&&◌, [], filter, i
 ghost use Rattle.std.specs.List.{flat_map};
 ghost use Rattle.kube_model.specs.Keys.{key_cmp};
 ghost use Rattle.pool_config.specs.KeySets.{keys_with};
-ghost use Rattle.versioned_map.specs.Objects.{is_newer};
+ghost use Rattle.versioned_map.specs.Objects.{is_newer, object_at};
 ghost use Rattle.speaker_view.specs.Addresses.{address_cmp};
 ghost use Rattle.speaker_view.specs.Change.{changed_addresses, deleted_addresses, is_accepted};
-ghost use Rattle.speaker_view.specs.Change.{is_unlisted};
+ghost use Rattle.speaker_view.specs.Change.{is_held_slice, is_shown_again, is_unlisted, shows_again};
+ghost use Rattle.speaker_view.specs.Change.{touched};
 ghost use Rattle.speaker_view.specs.Change.{recorded_at, served_at, served_by, shown_addresses, unlisted_addresses};
 
+use crate::endpoints::same_slice;
 use crate::index::service_of;
 use crate::view::View;
 use ip_ranges::{Address, AddressList};
@@ -27,6 +29,9 @@ pub struct ViewChange {
     /// service records that was shown, deleted or dropped at the end of a list, before and after,
     /// and those of the services of such an endpoint slice.
     pub addresses: AddressList,
+    /// But at these nothing is announced otherwise either: an endpoint slice was shown as it is
+    /// held, of the same service and with the same endpoints.
+    pub again: bool,
     /// And the nodes from which it may at each address, by ascending name: those whose held labels
     /// are others than before, and those that became members or are members no more.
     pub nodes: TextList,
@@ -37,8 +42,22 @@ impl Drop for ViewChange {
         let ViewChange {
             all: _,
             addresses: _,
+            again: _,
             nodes: _,
         } = self;
+    }
+}
+
+impl ViewChange {
+    /// The addresses at which what is announced may be other than before, unless all may be.
+    pub fn touched(&self) -> &[Address]
+        ensures { result.now ≡ touched self.now }
+    {
+        if self.again {
+            &[]
+        } else {
+            self.addresses.as_slice()
+        }
     }
 }
 
@@ -49,6 +68,47 @@ pub(crate) fn is_accepted(note: &TakeNote) -> bool
     match note {
         TakeNote::Accepted => true,
         TakeNote::Quiet | TakeNote::Refused { .. } => false,
+    }
+}
+
+/// Whether the event shows an endpoint slice as it is held.
+pub(crate) fn shows_again(view: &View, event: &Event) -> bool
+    ensures { result ≡ shows_again view.now event.now }
+{
+    match event {
+        Event::Changed { object, .. } => is_shown_again(view, object),
+        Event::Deleted { .. }
+        | Event::ListEnd { .. }
+        | Event::Expired
+        | Event::Members { .. }
+        | Event::Frame { .. }
+        | Event::Ignored => false,
+    }
+}
+
+fn is_shown_again(view: &View, object: &Object) -> bool
+    ensures { result ≡ is_shown_again view.now object.now }
+{
+    match object {
+        Object::Slice(slice) => is_held_slice(view, slice),
+        Object::Service(_)
+        | Object::Pool(_)
+        | Object::L2(_)
+        | Object::Bgp(_)
+        | Object::Peer(_)
+        | Object::Community(_)
+        | Object::Namespace(_)
+        | Object::Node(_) => false,
+    }
+}
+
+fn is_held_slice(view: &View, slice: &EndpointSlice) -> bool
+    ensures { result ≡ is_held_slice (object_at key_cmp view.now.held.slices slice.now.key)
+        slice.now }
+{
+    match view.slices().get(&slice.key) {
+        None => false,
+        Some(held) => same_slice(held, slice),
     }
 }
 

@@ -391,13 +391,8 @@ impl Stale {
             servers_by_address: Vec::new(alloc),
             slices: Vec::new(alloc),
         };
-        match stale.add(cache, event) {
-            Ok(()) => Ok(stale),
-            Err(refused) => {
-                drop(stale);
-                Err(refused)
-            }
-        }
+        stale.add(cache, event)?;
+        Ok(stale)
     }
 
     /// Adds the keys that may not be needed any more where the event is applied.
@@ -496,11 +491,7 @@ impl Stale {
     fn add_slice(&mut self, cache: &ObjectCache, slice: &EndpointSlice) -> Result<(), NoMemory> {
         let (group, key) = both(service_of(slice), slice.key.copy())?;
         if let Some(service) = cache.service(&group) {
-            let Ok(()) = self.add_servers(service) else {
-                drop(group);
-                drop(key);
-                return Err(NoMemory);
-            };
+            self.add_servers(service)?;
         }
         self.slices.push(GroupedKey { group, key })?;
         Ok(())

@@ -19,6 +19,7 @@ ghost use Rattle.pool_config.specs.KeySets.{keys_with};
 ghost use Rattle.versioned_map.specs.Objects.{object_at};
 ghost use Rattle.speaker_view.specs.Addresses.{address_cmp};
 ghost use Rattle.speaker_view.specs.Change.{OthersStay, changed_addresses, is_accepted, recorded_at, served_by};
+ghost use Rattle.speaker_view.specs.Change.{shows_again};
 ghost use Rattle.speaker_view.specs.Grouped.{service_of};
 ghost use Rattle.kube_model.specs.Service.{is_handled};
 ghost use Rattle.speaker_view.specs.Endpoints.{announced_from, endpoint_for, can_announce};
@@ -28,7 +29,7 @@ ghost use Rattle.speaker_view.specs.Index.{Covers, HasShown, passes};
 ghost use Rattle.speaker_view.specs.Nodes.{AreChangedNodes, nodes_by};
 ghost use Rattle.speaker_view.specs.View.{fresh, view_after, note_by, limit_by};
 
-use crate::change::{ViewChange, is_accepted, listed, listed_addresses};
+use crate::change::{ViewChange, is_accepted, listed, listed_addresses, shows_again};
 use crate::index::{Index, Stale, one_records, records};
 use crate::nodes::changed_nodes;
 use ip_ranges::{Address, AddressList};
@@ -121,6 +122,7 @@ impl View {
         ensures nodes { IfOk result (λ noted. AreChangedNodes self.old self.new noted.1.nodes) }
         ensures addresses { IfOk result (λ noted. noted.1.addresses
             ≡ keys_with address_cmp [] (changed_addresses self.old event)) }
+        ensures again { IfOk result (λ noted. noted.1.again ≡ shows_again self.old event) }
         ensures ok { OnOk result (self.new ≡ view_after event self.old) }
         ensures stay { IfOk result (λ noted. OthersStay self.old self.new noted.1) }
         ensures limit { (kind : KindValue) (count : ℕ)
@@ -143,6 +145,7 @@ impl View {
         ensures nodes { IfOk result (λ noted. AreChangedNodes self.old self.new noted.1.nodes) }
         ensures addresses { IfOk result (λ noted. noted.1.addresses
             ≡ keys_with address_cmp [] (changed_addresses self.old event)) }
+        ensures again { IfOk result (λ noted. noted.1.again ≡ shows_again self.old event) }
         ensures ok { OnOk result (self.new ≡ view_after event self.old) }
         ensures stay { IfOk result (λ noted. OthersStay self.old self.new noted.1) }
         ensures limit { (kind : KindValue) (count : ℕ)
@@ -157,6 +160,7 @@ impl View {
                 return Err(ApplyFault::NoMemory);
             }
         };
+        let again = shows_again(self, &event);
         match self.apply(event) {
             Ok(note) => {
                 let all = is_accepted(&note);
@@ -165,6 +169,7 @@ impl View {
                     ViewChange {
                         all,
                         addresses,
+                        again,
                         nodes,
                     },
                 ))
@@ -455,26 +460,12 @@ fn apply_to(
     ensures covers { Covers index.new cache.new }
 {
     if let Some((kind, count)) = cache.limit_of(&event) {
-        drop(event);
         return Err(ApplyFault::Limit { kind, count });
     }
-    let stale = match prepared(alloc, cache, index, &event) {
-        Ok(stale) => stale,
-        Err(NoMemory) => {
-            drop(event);
-            return Err(ApplyFault::NoMemory);
-        }
-    };
-    match apply_within(cache, index, event) {
-        Ok(note) => {
-            index.forget(cache, &stale);
-            Ok(note)
-        }
-        Err(fault) => {
-            drop(stale);
-            Err(fault)
-        }
-    }
+    let stale = prepared(alloc, cache, index, &event)?;
+    let note = apply_within(cache, index, event)?;
+    index.forget(cache, &stale);
+    Ok(note)
 }
 
 /// Makes place for what the event shows. What it may leave behind.
@@ -489,13 +480,8 @@ fn prepared(
     ensures has { OnOk result (HasShown index.new cache.now event.now) }
 {
     let stale = Stale::by(alloc, cache, event)?;
-    match index.add_shown(cache, event) {
-        Ok(()) => Ok(stale),
-        Err(refused) => {
-            drop(stale);
-            Err(refused)
-        }
-    }
+    index.add_shown(cache, event)?;
+    Ok(stale)
 }
 
 /// Applies an event for whose object there is place.

@@ -21,6 +21,7 @@ returns-in-Ok-apply-clause-stay c =
       nodes = subst (λ (names : List (List ℕ)). AreChangedNodes c.args.self.now (view_after c.args.event c.args.self.now) names)
           (sym c.in-Ok.ensures.nodes) (event-changes c.args.self.now c.args.event c.changed_by.ensures.ascending);
       addresses = c.in-Ok.ensures.addresses;
+      again = c.shows_again-again.ensures;
     })
 
 pub returns-in-Err-apply-clause-limit : goal.returns-in-Err-apply-clause-limit

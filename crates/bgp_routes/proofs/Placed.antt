@@ -7,8 +7,9 @@ use Rattle.std.proofs.lemmas.Map.Entries.{none_below_head}
 use Rattle.std.proofs.lemmas.Map.Lookups.{CmpEqualImpliesEq, exact_pairs, exact_unsigned}
 use Rattle.std.specs.BTreeMap.{insert_entry, is_at}
 use Rattle.std.specs.Cmp.{IsTotalOrder, nat_cmp_total, on_total, then_total}
+use Rattle.std.specs.List.{AllByRecursion}
 use Rattle.std.specs.List.Sorted.{IsStrictlySortedBy}
-use Rattle.std.specs.Map.{lookup, keys_of, values_of}
+use Rattle.std.specs.Map.{lookup, keys_of, set_value, values_of}
 use Rattle.std.specs.Ordering.{match_ordering, nat_cmp, ordering_then}
 use Rattle.ip_ranges.specs.declared.family.Family.{Family}
 use Rattle.ip_ranges.specs.declared.family.Family.TheVariants.{V4, V6}
@@ -17,14 +18,14 @@ use Rattle.speaker_view.specs.Addresses.{address_cmp, family_cmp}
 use Rattle.speaker_view.proofs.AddressOrder.{address_exact, address_total}
 use Rattle.bgp_updates.specs.declared.route.Terms.{Terms}
 use Rattle.bgp_updates.specs.Received.{same_prefix}
-use Rattle.bgp_updates.specs.Tables.{IsTable, before, families_before, numbers_before}
+use Rattle.bgp_updates.specs.Tables.{Ascend, IsTable, before, families_before, numbers_before}
 use Rattle.bgp_routes.specs.contracts.uniting.PrefixKeyOrd.TheImpl as derived
 use Rattle.bgp_routes.specs.declared.uniting.PrefixKey.{PrefixKey}
 use Rattle.bgp_routes.specs.Placed.{ArePlaced, place_cmp, place_of, united_with}
-use Rattle.bgp_routes.specs.Uniting.{with_contribution}
+use Rattle.bgp_routes.specs.Uniting.{united_terms, with_contribution}
 use Rattle.bgp_routes.proofs.Placing.{stays}
 
-abbrev Entries : Type 0
+abbrev pub Entries : Type 0
 Entries = List (PrefixKey × (PrefixValue × Terms))
 
 -- ---- the order of places
@@ -187,3 +188,85 @@ module _ (entries after : Entries) (c made : PrefixValue × Terms) (place : Pref
     subst ArePlaced (sym puts.is_after) (stay-placed entries place made made-place placed.0),
     subst IsTable (sym contribution-placed) (stays (values_of entries) c placed.1 is),
   )
+
+-- ---- another route of the same prefix stands at the place
+set-placed-by : (test : PrefixKey → Bool) (at : Bool) (e : PrefixKey × (PrefixValue × Terms)) (entries : Entries) (there made : PrefixValue × Terms)
+    → cond at (Some e.1) (lookup test entries) ≡ Some there → made.0 ≡ there.0 → ArePlaced (e ∷ entries)
+    → (lookup test entries ≡ Some there → ArePlaced (set_value test entries made))
+    → ArePlaced (cond at ((e.0, made) ∷ entries) (e ∷ set_value test entries made))
+set-placed-by test true e entries there made found prefix placed rest =
+    let first : e.1 ≡ there = cc in
+    (placed.0 ∙ ap (λ (r : PrefixValue × Terms). place_of r.0) first ∙ ap place_of (sym prefix), placed.1)
+set-placed-by test false e entries there made found prefix placed rest = (placed.0, rest found)
+
+set-placed : (test : PrefixKey → Bool) (entries : Entries) (there made : PrefixValue × Terms) → lookup test entries ≡ Some there → made.0 ≡ there.0
+    → ArePlaced entries → ArePlaced (set_value test entries made)
+set-placed test [] there made found prefix placed = tt
+set-placed test (e ∷ entries) there made found prefix placed =
+    set-placed-by test (test e.0) e entries there made found prefix placed (λ later. set-placed test entries there made later prefix placed.1)
+
+set-prefixes-by : (test : PrefixKey → Bool) (at : Bool) (e : PrefixKey × (PrefixValue × Terms)) (entries : Entries) (there made : PrefixValue × Terms)
+    → cond at (Some e.1) (lookup test entries) ≡ Some there → made.0 ≡ there.0
+    → (lookup test entries ≡ Some there → keys_of (values_of (set_value test entries made)) ≡ keys_of (values_of entries))
+    → keys_of (values_of (cond at ((e.0, made) ∷ entries) (e ∷ set_value test entries made))) ≡ keys_of (values_of (e ∷ entries))
+set-prefixes-by test true e entries there made found prefix rest =
+    let first : e.1 ≡ there = cc in
+    ap (λ (p : PrefixValue). p ∷ keys_of (values_of entries)) (prefix ∙ ap (λ (r : PrefixValue × Terms). r.0) (sym first))
+set-prefixes-by test false e entries there made found prefix rest = ap (λ (ps : List PrefixValue). e.1.0 ∷ ps) (rest found)
+
+set-prefixes : (test : PrefixKey → Bool) (entries : Entries) (there made : PrefixValue × Terms) → lookup test entries ≡ Some there → made.0 ≡ there.0
+    → keys_of (values_of (set_value test entries made)) ≡ keys_of (values_of entries)
+set-prefixes test [] there made found prefix = refl
+set-prefixes test (e ∷ entries) there made found prefix =
+    set-prefixes-by test (test e.0) e entries there made found prefix (λ later. set-prefixes test entries there made later prefix)
+
+pub set-stays : (test : PrefixKey → Bool) (entries after : Entries) (there made : PrefixValue × Terms) → lookup test entries ≡ Some there
+    → made.0 ≡ there.0 → after ≡ set_value test entries made
+    → ArePlaced entries × IsTable (values_of entries) → ArePlaced after × IsTable (values_of after)
+set-stays test entries after there made found prefix is_after placed = (
+  subst ArePlaced (sym is_after) (set-placed test entries there made found prefix placed.0),
+  subst (λ (ps : List PrefixValue). AllByRecursion IsPrefix ps × Ascend ps)
+      (sym (ap (λ (es : Entries). keys_of (values_of es)) is_after ∙ set-prefixes test entries there made found prefix)) placed.1,
+)
+
+set-inserts-by : (r : Ordering) (place : PrefixKey) (e : PrefixKey × (PrefixValue × Terms)) (entries : Entries) (made : PrefixValue × Terms)
+    → (r ≡ Less → ⊥)
+    → (r ≡ Greater → set_value (is_at (place_cmp place)) entries made ≡ insert_entry place_cmp entries place made)
+    → cond (is_eq r) ((e.0, made) ∷ entries) (e ∷ set_value (is_at (place_cmp place)) entries made)
+    ≡ match_ordering r ((place, made) ∷ e ∷ entries) ((e.0, made) ∷ entries) (e ∷ insert_entry place_cmp entries place made)
+set-inserts-by Less place e entries made never rest = absurd (never refl)
+set-inserts-by Equal place e entries made never rest = refl
+set-inserts-by Greater place e entries made never rest = ap (λ (es : Entries). e ∷ es) (rest refl)
+
+set-inserts : (place : PrefixKey) (entries : Entries) (there made : PrefixValue × Terms) → IsStrictlySortedBy place_cmp (keys_of entries)
+    → lookup (is_at (place_cmp place)) entries ≡ Some there
+    → set_value (is_at (place_cmp place)) entries made ≡ insert_entry place_cmp entries place made
+unfolding IsStrictlySortedBy
+set-inserts place [] there made sorted found = absurd (cc)
+set-inserts place (e ∷ entries) there made sorted found =
+    let rest : Option (PrefixValue × Terms) = lookup (is_at (place_cmp place)) entries in
+    set-inserts-by (place_cmp place e.0) place e entries made
+    (λ less. let none : lookup (is_at (place_cmp place)) (e ∷ entries) ≡ None =
+    lookup-none (is_at (place_cmp place)) (e ∷ entries) (none_below_head place_cmp-total place e entries sorted less) in absurd (cc))
+    (λ greater. set-inserts place entries there made sorted.1 (sym (passes (place_cmp place e.0) e.1 rest greater) ∙ found))
+
+-- The contribution is united with the route that stands at its place, by an order of places.
+pub record Unites (R : PrefixKey → PrefixKey → Ordering) (entries after : Entries) (c there made : PrefixValue × Terms) (place : PrefixKey) : Type 0 where
+  pub sorted : IsStrictlySortedBy R (keys_of entries)
+  pub is_place : place ≡ place_of c.0
+  pub is_there : lookup (is_at (R place)) entries ≡ Some there
+  pub is_made : made ≡ (there.0, united_terms there.1 c.1)
+  pub is_after : after ≡ set_value (is_at (R place)) entries made
+
+pub united-placed : (entries after : Entries) (c there made : PrefixValue × Terms) (place : PrefixKey) → ArePlaced entries
+    → Unites derived.cmp-value.it entries after c there made place
+    → values_of after ≡ with_contribution (values_of entries) c
+united-placed entries after c there made place placed unite =
+    let unites : Unites place_cmp entries after c there made place =
+    subst (λ (R : PrefixKey → PrefixKey → Ordering). Unites R entries after c there made place) place_cmp-is unite in
+    ap values_of unites.is_after
+    ∙ ap values_of (set-inserts place entries there made unites.sorted unites.is_there)
+    ∙ ap (λ (m : PrefixValue × Terms). values_of (insert_entry place_cmp entries place m))
+    (unites.is_made ∙ ap (λ (found : Option (PrefixValue × Terms)). united_with found c) (sym unites.is_there))
+    ∙ ap (λ (p : PrefixKey). values_of (insert_entry place_cmp entries p (united_with (lookup (is_at (place_cmp p)) entries) c))) unites.is_place
+    ∙ values-with entries c placed unites.sorted

@@ -1,7 +1,6 @@
 -- Contributions, united to routes.
-use Rattle.std.specs.Prelude.{ℕ, ◌+◌, Bool, true, ◌&&◌, nat_le, if◌then◌else◌, max, List, [], ◌∷◌, Option, Some, None}
+use Rattle.std.specs.Prelude.{ℕ, if◌then◌else◌, max, List, [], ◌∷◌, Option, Some, None}
 use Rattle.std.specs.Ordering.{nat_cmp}
-use Rattle.std.specs.Str.{bytes_eq}
 use Rattle.std.specs.declared.cmp.Ordering.{Ordering}
 use Rattle.ip_ranges.specs.Values.{PrefixValue}
 use Rattle.large_numbers.specs.Large.{large_cmp}
@@ -19,15 +18,6 @@ greater (Some a) (Some b) = Some (max a b)
 -- the keys of both, ascending, each once
 abbrev pub united : {K : Type 0} → (K → K → Ordering) → List K → List K → List K
 united cmp a b = keys_with cmp (keys_with cmp [] a) b
-
--- the numbers ascend, the first of them not below this one
-abbrev pub ascend_from : ℕ → List ℕ → Bool
-ascend_from low [] = true
-ascend_from low (n ∷ numbers) = nat_le low n && ascend_from (n + 1) numbers
-
--- the lists are equal, and ascend
-abbrev pub are_same : List ℕ → List ℕ → Bool
-are_same a b = bytes_eq a b && ascend_from 0 a
 
 -- the greater preference, and the communities of both, large ones too
 abbrev pub united_terms : Terms → Terms → Terms

@@ -66,102 +66,119 @@ fn united_routes(
     let Some(config) = view.config() else {
         return Ok(routes);
     };
-    add_services(&mut routes, view, node, peer, both, config)?;
-    Ok(routes)
-}
-
-fn add_services(
-    routes: &mut UnitedRoutes,
-    view: &View,
-    node: &Text,
-    peer: &CompiledPeer,
-    both: bool,
-    config: &Config,
-) -> Result<(), NoMemory>
-    ensures { OnOk result (routes.new
-        ≡ with_each (of_service view.now node.now peer.now both config.now) routes.old
-        (objects_of view.now.held.services)) }
-{
-    for (_, held) in view.services().iter() {
-        add_service(routes, view, node, peer, both, config, &held.object)?;
-    }
-    Ok(())
-}
-
-#[tactic(auto, using(crate::proofs::Placing::with_each_flat))]
-fn add_service(
-    routes: &mut UnitedRoutes,
-    view: &View,
-    node: &Text,
-    peer: &CompiledPeer,
-    both: bool,
-    config: &Config,
-    service: &Service,
-) -> Result<(), NoMemory>
-    ensures { OnOk result (routes.new
-        ≡ with_contributions routes.old
-        (of_service view.now node.now peer.now both config.now service.now)) }
-{
-    if !view.can_announce(service, node) {
-        return Ok(());
-    }
-    add_addresses(
-        routes,
+    let contributing = Contributing {
         view,
         node,
         peer,
         both,
-        config,
-        service.holding.addresses.as_slice(),
-    )
+    };
+    contributing.add_services(&mut routes, config)?;
+    Ok(routes)
 }
 
-fn add_addresses(
-    routes: &mut UnitedRoutes,
-    view: &View,
-    node: &Text,
-    peer: &CompiledPeer,
+/// What decides on contributions beside the configuration.
+#[derive(Clone, Copy)]
+struct Contributing<'a> {
+    view: &'a View,
+    node: &'a Text,
+    peer: &'a CompiledPeer,
+    // whether addresses of IPv6 count
     both: bool,
-    config: &Config,
-    addresses: &[Address],
-) -> Result<(), NoMemory>
-    ensures { OnOk result (routes.new
-        ≡ with_each (of_address view.now node.now peer.now both config.now) routes.old
-        addresses.now) }
-{
-    for address in addresses {
-        add_address(routes, view, node, peer, both, config, address)?;
-    }
-    Ok(())
 }
 
-fn add_address(
-    routes: &mut UnitedRoutes,
-    view: &View,
-    node: &Text,
-    peer: &CompiledPeer,
-    both: bool,
-    config: &Config,
-    address: &Address,
-) -> Result<(), NoMemory>
-    ensures { OnOk result (routes.new
-        ≡ with_contributions routes.old
-        (of_address view.now node.now peer.now both config.now address.now)) }
-{
-    if !counts(both, address.family) {
-        return Ok(());
+impl Contributing<'_> {
+    fn add_services(&self, routes: &mut UnitedRoutes, config: &Config) -> Result<(), NoMemory>
+        ensures { OnOk result (routes.new
+            ≡ with_each (of_service self.now.view.now self.now.node.now self.now.peer.now
+            self.now.both config.now) routes.old (objects_of self.now.view.now.held.services)) }
+    {
+        for (_, held) in self.view.services().iter() {
+            self.add_service(routes, config, &held.object)?;
+        }
+        Ok(())
     }
-    match config.pool_with(address) {
-        None => Ok(()),
-        Some(pool) => add_pool(
-            routes,
-            view,
-            node,
-            peer,
-            address,
-            pool,
-            config.bgp.as_slice(),
-        ),
+
+    #[tactic(auto, using(crate::proofs::Placing::with_each_flat))]
+    fn add_service(
+        &self,
+        routes: &mut UnitedRoutes,
+        config: &Config,
+        service: &Service,
+    ) -> Result<(), NoMemory>
+        ensures { OnOk result (routes.new
+            ≡ with_contributions routes.old
+            (of_service self.now.view.now self.now.node.now self.now.peer.now self.now.both
+            config.now service.now)) }
+    {
+        if !self.view.can_announce(service, self.node) {
+            return Ok(());
+        }
+        self.add_addresses(routes, config, service.holding.addresses.as_slice())
+    }
+
+    fn add_addresses(
+        &self,
+        routes: &mut UnitedRoutes,
+        config: &Config,
+        addresses: &[Address],
+    ) -> Result<(), NoMemory>
+        ensures { OnOk result (routes.new
+            ≡ with_each (of_address self.now.view.now self.now.node.now self.now.peer.now
+            self.now.both config.now) routes.old addresses.now) }
+    {
+        for address in addresses {
+            self.add_address(routes, config, address)?;
+        }
+        Ok(())
+    }
+
+    fn add_address(
+        &self,
+        routes: &mut UnitedRoutes,
+        config: &Config,
+        address: &Address,
+    ) -> Result<(), NoMemory>
+        ensures { OnOk result (routes.new
+            ≡ with_contributions routes.old
+            (of_address self.now.view.now self.now.node.now self.now.peer.now self.now.both
+            config.now address.now)) }
+    {
+        if !counts(self.both, address.family) {
+            return Ok(());
+        }
+        match config.pool_with(address) {
+            None => Ok(()),
+            Some(pool) => self.add_pool(routes, address, pool, config.bgp.as_slice()),
+        }
+    }
+
+    fn add_pool(
+        &self,
+        routes: &mut UnitedRoutes,
+        address: &Address,
+        pool: &CompiledPool,
+        bgp: &[CompiledBgp],
+    ) -> Result<(), NoMemory>
+        ensures { OnOk result (routes.new
+            ≡ with_contributions routes.old
+            (of_pool self.now.view.now self.now.node.now self.now.peer.now address.now pool.now
+            bgp.now)) }
+    {
+        for advertisement in bgp {
+            if self.advertises(pool, advertisement) {
+                routes.add(contribution(self.peer, address, advertisement)?)?;
+            }
+        }
+        Ok(())
+    }
+
+    fn advertises(&self, pool: &CompiledPool, advertisement: &CompiledBgp) -> bool
+        ensures { result ≡ advertises self.now.view.now self.now.node.now self.now.peer.now
+            pool.now advertisement.now }
+    {
+        advertisement.chooses(pool)
+            && advertisement.selects(self.view.node_labels(self.node))
+            && is_for(self.peer, advertisement)
     }
 }
 
@@ -173,42 +190,6 @@ pub(crate) fn counts(both: bool, family: Family) -> bool
         Family::V4 => true,
         Family::V6 => both,
     }
-}
-
-fn add_pool(
-    routes: &mut UnitedRoutes,
-    view: &View,
-    node: &Text,
-    peer: &CompiledPeer,
-    address: &Address,
-    pool: &CompiledPool,
-    bgp: &[CompiledBgp],
-) -> Result<(), NoMemory>
-    ensures { OnOk result (routes.new
-        ≡ with_contributions routes.old
-        (of_pool view.now node.now peer.now address.now pool.now bgp.now)) }
-{
-    for advertisement in bgp {
-        if advertises(view, node, peer, pool, advertisement) {
-            let route = contribution(peer, address, advertisement)?;
-            routes.add(route)?;
-        }
-    }
-    Ok(())
-}
-
-fn advertises(
-    view: &View,
-    node: &Text,
-    peer: &CompiledPeer,
-    pool: &CompiledPool,
-    advertisement: &CompiledBgp,
-) -> bool
-    ensures { result ≡ advertises view.now node.now peer.now pool.now advertisement.now }
-{
-    advertisement.chooses(pool)
-        && advertisement.selects(view.node_labels(node))
-        && is_for(peer, advertisement)
 }
 
 pub(crate) fn is_for(peer: &CompiledPeer, advertisement: &CompiledBgp) -> bool

@@ -1,20 +1,18 @@
 //! Contributions, united to routes.
 ghost use Rattle.std.specs.Prelude.{◌≡◌, [], IfOk, OnOk};
-ghost use Rattle.std.specs.Option.{option_copied};
-ghost use Rattle.std.specs.Ordering.{nat_cmp};
+ghost use Rattle.std.specs.List.Sorted.{IsStrictlySortedBy};
+ghost use Rattle.std.specs.Map.{values_of};
 ghost use Rattle.ip_ranges.specs.Values.{IsPrefix};
-ghost use Rattle.large_numbers.specs.Large.{large_cmp};
 ghost use Rattle.pool_config.specs.KeySets.{keys_with};
 ghost use Rattle.bgp_updates.specs.Tables.{IsTable};
-ghost use Rattle.bgp_routes.specs.Placed.{place_of, united_with};
-ghost use Rattle.bgp_routes.specs.Uniting.{are_same, ascend_from, greater, united, united_terms};
-ghost use Rattle.bgp_routes.specs.Uniting.{with_contribution};
+ghost use Rattle.bgp_routes.specs.Placed.{place_of};
+ghost use Rattle.bgp_routes.specs.Uniting.{greater, united_terms, with_contribution};
 
 use bgp_updates::Route;
 use ip_ranges::{Address, Prefix};
-use large_numbers::{LargeNumbers, larges_from};
-use mlb_base::{NoMemory, TryCopy};
-use pool_config::{CommunityNumbers, numbers_from};
+use large_numbers::{LargeCommunity, larges_from};
+use mlb_base::NoMemory;
+use pool_config::numbers_from;
 use std::alloc::Global;
 use std::collections::{BTreeMap, BTreeSet};
 use std::marker::Model;
@@ -24,7 +22,17 @@ use std::marker::Model;
 #[derive(Drop)]
 pub(crate) struct UnitedRoutes {
     alloc: Global,
-    routes: BTreeMap<PrefixKey, Route>,
+    routes: BTreeMap<PrefixKey, UnitedRoute>,
+}
+
+/// A route while contributions are united to it, with sets of communities, so that each
+/// contribution costs the logarithm of their number.
+#[derive(Drop)]
+pub(crate) struct UnitedRoute {
+    prefix: Prefix,
+    preference: Option<u32>,
+    communities: BTreeSet<u32>,
+    large: BTreeSet<LargeCommunity>,
 }
 
 /// The place of a prefix: places ascend by the first address, IPv4 before IPv6, then by length.
@@ -67,8 +75,11 @@ impl UnitedRoutes {
         ensures { OnOk result (self.new ≡ with_contribution self.old route) }
     {
         let place = place_of(&route);
-        let joined = united_with(self.alloc, self.routes.get(&place), route)?;
-        let _before = self.routes.insert(place, joined)?;
+        if let Some(there) = self.routes.get_mut(&place) {
+            return there.unite(&route);
+        }
+        let united = UnitedRoute::of(self.alloc, &route)?;
+        let _before = self.routes.insert(place, united)?;
         Ok(())
     }
 
@@ -77,7 +88,55 @@ impl UnitedRoutes {
         ensures value { IfOk result (λ routes. routes.items ≡ self) }
         ensures table { IfOk result (λ routes. IsTable routes.items) }
     {
-        Ok(self.routes.into_values().collect(self.alloc)?)
+        routes_in(self.alloc, self.routes)
+    }
+}
+
+impl Model for UnitedRoute {
+    ghost use Rattle.ip_ranges.specs.Values.{PrefixValue};
+    ghost use Rattle.bgp_updates.specs.declared.route.Terms.{Terms};
+
+    ghost Value = { PrefixValue × Terms };
+
+    ghost view = { λ r. (r.prefix, record { preference = r.preference; communities = r.communities.keys; large = r.large.keys }) };
+}
+
+impl UnitedRoute {
+    /// That of one contribution.
+    fn of(alloc: Global, route: &Route) -> Result<UnitedRoute, NoMemory>
+        ensures { IfOk result (λ united. united ≡ route.now) }
+    {
+        let mut communities = BTreeSet::new(alloc);
+        let mut large = BTreeSet::new(alloc);
+        add_all(&mut communities, route.communities.as_slice())?;
+        add_all(&mut large, route.large.as_slice())?;
+        Ok(UnitedRoute {
+            prefix: route.prefix,
+            preference: route.preference,
+            communities,
+            large,
+        })
+    }
+
+    /// A contribution of the same prefix is united with it.
+    fn unite(&mut self, route: &Route) -> Result<(), NoMemory>
+        ensures prefix { self.new.0 ≡ self.old.0 }
+        ensures terms { OnOk result (self.new.1 ≡ united_terms self.old.1 route.now.1) }
+    {
+        self.preference = greater(self.preference, route.preference);
+        add_all(&mut self.communities, route.communities.as_slice())?;
+        add_all(&mut self.large, route.large.as_slice())
+    }
+
+    fn into_route(self, alloc: Global) -> Result<Route, NoMemory>
+        ensures { IfOk result (λ route. route ≡ self) }
+    {
+        Ok(Route {
+            prefix: self.prefix,
+            preference: self.preference,
+            communities: numbers_from(alloc, &self.communities)?,
+            large: larges_from(alloc, &self.large)?,
+        })
     }
 }
 
@@ -95,31 +154,24 @@ impl PrefixKey {
     }
 }
 
+/// The routes that stand at these places, in their order.
+fn routes_in(
+    alloc: Global,
+    united: BTreeMap<PrefixKey, UnitedRoute>,
+) -> Result<Vec<Route>, NoMemory>
+    ensures { IfOk result (λ routes. routes.items ≡ values_of united.entries) }
+{
+    let mut routes = Vec::new(alloc);
+    for route in united.into_values() {
+        routes.push(route.into_route(alloc)?)?;
+    }
+    Ok(routes)
+}
+
 fn place_of(route: &Route) -> PrefixKey
     ensures { result ≡ place_of route.now.0 }
 {
     PrefixKey::of(&route.prefix)
-}
-
-/// The contribution, united with the route that stands at its place, if any.
-fn united_with(alloc: Global, there: Option<&Route>, route: Route) -> Result<Route, NoMemory>
-    ensures { IfOk result (λ made. made ≡ united_with (option_copied there.entry) route) }
-{
-    match there {
-        None => Ok(route),
-        Some(there) => united_route(alloc, there, &route),
-    }
-}
-
-fn united_route(alloc: Global, there: &Route, route: &Route) -> Result<Route, NoMemory>
-    ensures { IfOk result (λ made. made ≡ (there.now.0, united_terms there.now.1 route.now.1)) }
-{
-    Ok(Route {
-        prefix: there.prefix,
-        preference: greater(there.preference, route.preference),
-        communities: united(alloc, &there.communities, &route.communities)?,
-        large: united_large(alloc, &there.large, &route.large)?,
-    })
 }
 
 fn greater(a: Option<u32>, b: Option<u32>) -> Option<u32>
@@ -132,61 +184,12 @@ fn greater(a: Option<u32>, b: Option<u32>) -> Option<u32>
     }
 }
 
-/// The communities of both. Lists that are equal, as those of one advertisement are, need no set.
-#[tactic(auto, using(crate::proofs::Same::united_same))]
-fn united(
-    alloc: Global,
-    a: &CommunityNumbers,
-    b: &CommunityNumbers,
-) -> Result<CommunityNumbers, NoMemory>
-    ensures { IfOk result (λ numbers. numbers ≡ united nat_cmp a.now b.now) }
-{
-    if are_same(a.as_slice(), b.as_slice()) {
-        return a.copy();
-    }
-    let mut set = BTreeSet::new(alloc);
-    add_all(&mut set, a.as_slice())?;
-    add_all(&mut set, b.as_slice())?;
-    numbers_from(alloc, &set)
-}
-
-/// The large communities of both, which ascend in each.
-fn united_large(alloc: Global, a: &LargeNumbers, b: &LargeNumbers) -> Result<LargeNumbers, NoMemory>
-    ensures { IfOk result (λ numbers. numbers ≡ united large_cmp a.now b.now) }
-{
-    if a.as_slice() == b.as_slice() {
-        return a.copy();
-    }
-    let mut set = BTreeSet::new(alloc);
-    add_all(&mut set, a.as_slice())?;
-    add_all(&mut set, b.as_slice())?;
-    larges_from(alloc, &set)
-}
-
-/// Whether the lists are equal, and ascend.
-fn are_same(a: &[u32], b: &[u32]) -> bool
-    ensures { result ≡ are_same a.now b.now }
-{
-    a == b && ascend(a)
-}
-
-fn ascend(numbers: &[u32]) -> bool
-    ensures { result ≡ ascend_from 0 numbers.now }
-{
-    let mut low = 0;
-    for number in numbers {
-        let number = u64::from(*number);
-        if number < low {
-            return false;
-        }
-        low = number + 1;
-    }
-    true
-}
-
+/// Adds the keys to the set, which ascends.
 fn add_all<K: Ord + Copy>(set: &mut BTreeSet<K>, keys: &[K]) -> Result<(), NoMemory>
-    ensures { OnOk result (set.new.keys ≡ keys_with K.cmp set.old.keys keys.now) }
+    ensures keys { OnOk result (set.new.keys ≡ keys_with K.cmp set.old.keys keys.now) }
+    ensures ascend { IsStrictlySortedBy K.cmp set.old.keys }
 {
+    let _count = set.len();
     for key in keys {
         let _is_new = set.insert(*key)?;
     }

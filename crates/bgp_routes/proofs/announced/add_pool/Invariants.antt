@@ -1,8 +1,0 @@
-use Rattle.std.proofs.Common.{◌≡◌, drop}
-use Rattle.bgp_routes.specs.Routes.{of_pool}
-use Rattle.bgp_routes.specs.Uniting.{with_contributions}
-use Rattle.bgp_routes.proofs.announced.add_pool.Given as goal
-
-abbrev pub invariant-loop-advertisement : goal.invariant-loop-advertisement
-invariant-loop-advertisement l = with_contributions l.routes (of_pool l.view l.node l.peer l.address l.pool (drop l.advertisement-index l.bgp))
-    ≡ with_contributions l.initial.routes (of_pool l.view l.node l.peer l.address l.pool l.bgp)

@@ -1,5 +1,6 @@
 pub mod Entered
 pub mod Kept
+pub mod MarkedClaims
 pub mod OtherClaims
 pub mod Reaches
 pub mod Steps

@@ -1,7 +1,6 @@
 //! What a change of services makes of the claims.
 ghost use Rattle.std.specs.Prelude.{◌≡◌, IfOk};
 ghost use Rattle.alloc_book.specs.Book.{HasRoom};
-ghost use Rattle.claim_index.specs.Claims.{terms_under};
 ghost use Rattle.core_rules.specs.Core.{no_terms, shown_terms, terms_in};
 ghost use Rattle.core_rules.specs.Replied.{put_terms};
 ghost use Rattle.core_rules.specs.Take.{have_claims, listed_claims};
@@ -9,35 +8,34 @@ ghost use Rattle.core_rules.specs.Take.{have_claims, listed_claims};
 use alloc_book::{Book, Claim};
 use core_keys::{Listed, Services};
 use kube_labels::Text;
-use kube_model::{Key, Put, Record, Service};
+use kube_model::{Key, Put, Service};
 use mlb_base::NoMemory;
 use object_cache::ObjectCache;
 use sharing_terms::{Backend, PortSet, Terms, terms_of};
 use std::alloc::Global;
 
-/// The record as it is claimed: under the terms of its mark, and where it is the mark of none under
-/// the adopted ones.
-fn adopting(alloc: Global, key: &Key, holding: &Record, adopted: Terms) -> Result<Claim, NoMemory>
-    ensures { IfOk result (λ c. c ≡ record { key = key.now; holding = holding.now; terms = terms_under holding.now adopted }) }
-{
-    let claim = Claim::adopting(alloc, key, holding, &adopted);
-    claim
-}
-
-/// The claim of a service that is shown: it adopts the terms that the service has now.
+/// The claim of a service that is shown: it adopts the terms that the service has now. These are
+/// looked for only where its mark is that of none.
 pub(crate) fn shown_claim(alloc: Global, service: &Service) -> Result<Claim, NoMemory>
     ensures { IfOk result (λ c. c ≡ record { key = service.now.key; holding = service.now.holding; terms = shown_terms service.now }) }
 {
+    if let Some(claim) = Claim::marked(alloc, &service.key, &service.holding)? {
+        return Ok(claim);
+    }
     let terms = terms_of(alloc, service)?;
-    adopting(alloc, &service.key, &service.holding, terms)
+    Claim::adopting(alloc, &service.key, &service.holding, &terms)
 }
 
-/// The claim of a put: it adopts the terms of the held service.
+/// The claim of a put: it adopts the terms of the held service, which is looked up only where its
+/// mark is that of no terms.
 pub(crate) fn claim_of(alloc: Global, cache: &ObjectCache, put: &Put) -> Result<Claim, NoMemory>
     ensures { IfOk result (λ c. c ≡ record { key = put.now.key; holding = put.now.holding; terms = put_terms cache.now put.now }) }
 {
+    if let Some(claim) = Claim::marked(alloc, &put.key, &put.holding)? {
+        return Ok(claim);
+    }
     let terms = terms_in(alloc, cache, &put.key)?;
-    adopting(alloc, &put.key, &put.holding, terms)
+    Claim::adopting(alloc, &put.key, &put.holding, &terms)
 }
 
 /// The claim of the put, and room for it.

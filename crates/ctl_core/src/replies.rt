@@ -176,7 +176,8 @@ fn let_wait(
         else contains key_cmp waiting.old k)) }
     ensures err { OnErr result (waiting.new ≡ waiting.old) }
 {
-    if lacks_with(class, &put.holding, services.get(&put.key)) {
+    // A record that has an address isn't empty, whatever the service is.
+    if !put.holding.is_assigned() && lacks_with(class, &put.holding, services.get(&put.key)) {
         return waiting.insert(&put.key);
     }
     waiting.remove(&put.key);

@@ -64,19 +64,19 @@ impl CoreState {
         ensures { IfOk result (λ turn. turn
             ≡ turn_at self.now key.now (service_of self.now.held key.now)) }
     {
-        match self.cache.service(key) {
+        match self.cache.services().held(key) {
             None => Ok(Turn::NoPut {
                 key: key.copy()?,
                 pending: None,
             }),
-            Some(service) => {
+            Some(held) => {
+                let service = &held.object;
                 let choice = self.choose_for(service)?;
-                let version = self.cache.services().version_of(key);
                 let has_other = self.has_other(service)?;
                 turn_for(
                     self.alloc,
                     key,
-                    version,
+                    held.version,
                     &service.holding,
                     has_other,
                     choice,

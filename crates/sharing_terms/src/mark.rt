@@ -14,6 +14,9 @@ use kube_model::{Port, Protocol};
 use mlb_base::NoMemory;
 use std::alloc::{AllocError, Global};
 
+/// As many bytes as most marks have at most, so that they take memory once.
+const MOST_MARKS: usize = 48;
+
 fn protocol_letter(protocol: Protocol) -> &'static str
     ensures { result.now ≡ protocol_letter protocol ∷ [] }
 {
@@ -116,7 +119,8 @@ fn written(alloc: Global, terms: &Terms) -> Result<Text, NoMemory>
     ensures text { IfOk result (λ text. text ≡ mark_of terms.now) }
     ensures terms { OnOk result (AreTerms terms.now) }
 {
-    let mut text = String::from_str(alloc, "v1;")?;
+    let mut text = String::with_capacity(alloc, MOST_MARKS)?;
+    text.push_str("v1;")?;
     push_hex(alloc, &mut text, terms.key.as_str())?;
     text.push(';')?;
     push_ports(alloc, &mut text, terms.ports.as_slice())?;

@@ -86,8 +86,8 @@ returns-in_default-clause-trial g c = λ seed steps ask.
 
 -- ---- a run
 
-pub run_machine-status-requires : goal.run_machine-status-requires
-run_machine-status-requires g c = record {
+pub run_machine-requires : goal.run_machine-requires
+run_machine-requires g c = record {
   live = λ i r o name answered. c.requires.live _ (subst (λ x. Say (texts_of c.args.words.now) (asked_seen x)) c.in-Some-Run.field-0-is c.in-Some-Run.ensures.said)
       i r o name
       (subst (λ s. IsAnswered controller_rules s (g.S.PacedSource.left c.args.input.now) r (g.S.PacedSource.left i) (g.K.Sink.written c.args.out.now)
@@ -98,35 +98,35 @@ pub returns-clause-run : goal.returns-clause-run
 returns-clause-run g c = λ class say.
     let begun : c.in-Ok.controller.core ≡ fresh class = c.in-Ok.ensures
     ∙ ap fresh (one_run (texts_of c.args.words.now) _ class (sym (ap (λ x. Some (asked_seen x)) c.in-Some-Run.field-0-is) ∙ c.in-Some-Run.ensures.value) say) in
-    subst (λ s. RunOwes controller_rules IsCause s c.run_machine-status.result (g.S.PacedSource.left c.args.input.now)
-    (g.S.PacedSource.left c.run_machine-status.new.input)
-    (g.K.Sink.written c.args.out.now) (g.K.Sink.written c.run_machine-status.new.out)) begun c.run_machine-status.ensures.run
+    subst (λ s. RunOwes controller_rules IsCause s c.run_machine.result (g.S.PacedSource.left c.args.input.now)
+    (g.S.PacedSource.left c.run_machine.new.input)
+    (g.K.Sink.written c.args.out.now) (g.K.Sink.written c.run_machine.new.out)) begun c.run_machine.ensures.run
 
 pub returns-clause-only : goal.returns-clause-only
 returns-clause-only g c = λ class say.
     let begun : c.in-Ok.controller.core ≡ fresh class = c.in-Ok.ensures
     ∙ ap fresh (one_run (texts_of c.args.words.now) _ class (sym (ap (λ x. Some (asked_seen x)) c.in-Some-Run.field-0-is) ∙ c.in-Some-Run.ensures.value) say) in
     let left = g.S.PacedSource.left c.args.input.now in
-    writes_rightly class left (g.K.Sink.written c.args.out.now) (g.K.Sink.written c.run_machine-status.new.out)
-    (subst (λ (s : State). WritesOnly controller_rules s left (g.K.Sink.written c.args.out.now) (g.K.Sink.written c.run_machine-status.new.out)) begun
-    c.run_machine-status.ensures.run.only)
+    writes_rightly class left (g.K.Sink.written c.args.out.now) (g.K.Sink.written c.run_machine.new.out)
+    (subst (λ (s : State). WritesOnly controller_rules s left (g.K.Sink.written c.args.out.now) (g.K.Sink.written c.run_machine.new.out)) begun
+    c.run_machine.ensures.run.only)
 
 pub returns-clause-safe : goal.returns-clause-safe
 returns-clause-safe g c = λ class say.
     let begun : c.in-Ok.controller.core ≡ fresh class = c.in-Ok.ensures
     ∙ ap fresh (one_run (texts_of c.args.words.now) _ class (sym (ap (λ x. Some (asked_seen x)) c.in-Some-Run.field-0-is) ∙ c.in-Some-Run.ensures.value) say) in
     let left = g.S.PacedSource.left c.args.input.now in
-    writes_safely class left (g.K.Sink.written c.args.out.now) (g.K.Sink.written c.run_machine-status.new.out)
-    (subst (λ (s : State). WritesOnly controller_rules s left (g.K.Sink.written c.args.out.now) (g.K.Sink.written c.run_machine-status.new.out)) begun
-    c.run_machine-status.ensures.run.only)
+    writes_safely class left (g.K.Sink.written c.args.out.now) (g.K.Sink.written c.run_machine.new.out)
+    (subst (λ (s : State). WritesOnly controller_rules s left (g.K.Sink.written c.args.out.now) (g.K.Sink.written c.run_machine.new.out)) begun
+    c.run_machine.ensures.run.only)
 
 pub returns-clause-quiet : goal.returns-clause-quiet
 returns-clause-quiet g c = λ class say done.
     let begun : c.in-Ok.controller.core ≡ fresh class = c.in-Ok.ensures
     ∙ ap fresh (one_run (texts_of c.args.words.now) _ class (sym (ap (λ x. Some (asked_seen x)) c.in-Some-Run.field-0-is) ∙ c.in-Some-Run.ensures.value) say) in
     let stopped : StopsFor controller_rules IsCause (fresh class) (g.S.PacedSource.left c.args.input.now) (g.K.Sink.written c.args.out.now)
-    (g.K.Sink.written c.run_machine-status.new.out) c.run_machine-status.result = rw begun at (c.run_machine-status.ensures.run.done done) in
-    quiet_where_done class (g.S.PacedSource.left c.args.input.now) (g.K.Sink.written c.args.out.now) (g.K.Sink.written c.run_machine-status.new.out)
+    (g.K.Sink.written c.run_machine.new.out) c.run_machine.result = rw begun at (c.run_machine.ensures.run.done done) in
+    quiet_where_done class (g.S.PacedSource.left c.args.input.now) (g.K.Sink.written c.args.out.now) (g.K.Sink.written c.run_machine.new.out)
     (rw done at stopped.stops)
 
 pub returns-clause-trial : goal.returns-clause-trial

@@ -27,9 +27,9 @@ returns-in_default-clause-responds g c =
     (responds_not start files bytes unfailing seen seen input input before before writes writes)
 
 -- however much was seen, of what stands written each event is published
-one_begins : {A B C : Type 0} (b : Bool) → MatchBool b A (B × C) → A ⊎ B
-one_begins true is = inl is
-one_begins false is = inr is.0
+one_begins : {A B : Type 0} (C : Type 0) (b : Bool) → MatchBool b A (B × C) → A ⊎ B
+one_begins C true is = inl is
+one_begins C false is = inr is.0
 
 pub end_board-requires : goal.end_board-requires
 end_board-requires g c =
@@ -39,10 +39,10 @@ end_board-requires g c =
     let board = ran.result.1.writer in
     let seen_is : c.seen.result ≡ w.sight.seen = c.seen.ensures ∙ ap (λ (a : Answering). a.sight.seen) c.answerer.view_is in
     let begins : IsPrefix w.sight.seen board.published ⊎ IsPrefix board.published w.sight.seen =
-    rw (sym seen_is, sym c.tell.ensures) (one_begins c.begins-is_shown.result c.begins-is_shown.ensures) in
-    let ahead = run_ahead s c.in-Ok.ensures.shown c.in-Ok.begun.1 w c.in-Ok.ensures.unseen board
-    (ran.ensures.behind refl (stands_unshown _ s c.in-Ok.ensures.shown)) begins in
-    c.requires.ends board ran.new.out ahead.0 ahead.1
+    rw (sym seen_is, sym c.tell.ensures) (one_begins _ c.begins-is_shown.result c.begins-is_shown.ensures) in
+    let ahead = run_ahead (first_state (said_seen c.args.said.now)) _ _ (g.S.PacedSource.left c.args.input.now) s c.in-Ok.ensures.shown
+    c.in-Ok.begun.1 w c.in-Ok.ensures.unseen board _ _ (ran.ensures.behind refl (stands_unshown _ s c.in-Ok.ensures.shown)) begins in
+    record { paced = c.requires.ends board ran.new.out ahead.0 ahead.1 }
 
 -- what was seen begins what is published
 pub returns-then-is_shown-clause-responds : goal.returns-then-is_shown-clause-responds

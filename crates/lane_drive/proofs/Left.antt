@@ -1,9 +1,10 @@
 -- What a machine stands after at last, which hears no replies.
-use Rattle.std.proofs.Common.{◌≡◌, ◌⊎◌, inl, inr, ℕ, Bool, false, List, [], ◌∷◌, ◌++◌, take, Option, Some, None, refl, subst, ◌∙◌}
+use Rattle.std.proofs.Common.{◌≡◌, ◌⊎◌, inl, inr, ℕ, Bool, true, false, List, [], ◌∷◌, ◌++◌, take, Option, Some, None, refl, subst, ◌∙◌}
+use Rattle.std.proofs.lemmas.Bool.{true≢false}
 use Rattle.std.specs.Option.{option_to_list}
 use Rattle.kube_model.specs.declared.status.Status.{Status}
 use Rattle.lane_mail.specs.declared.item.Item.{Item}
-use Rattle.lane_run.specs.Reconciled.{LeavesOff, StandsBehind}
+use Rattle.lane_run.specs.Reconciled.{LeavesOff, StandsAs, StandsBehind}
 use Rattle.lane_run.specs.Outside.{Outside}
 use Rattle.line_run.specs.Ended.{status_of_refusal}
 use Rattle.line_run.proofs.Texts.{nothing_more}
@@ -23,9 +24,23 @@ use Rattle.lane_drive.proofs.Sent.{SendsLawfully}
 use Rattle.lane_drive.proofs.Taken.{drives_all}
 use Rattle.lane_drive.proofs.Ways.{why}
 
-module _ {S E : Type 0} {sending : Sending} (laws : SendsLawfully sending) (rules : LaneRules S E) (start : S) (Stands : List Item → Option Item → Type 0) where
+-- what stands so where there are no replies
+pub stands_if : (hears : Bool) (Stands : List Item → Option Item → List Item → Type 0) (driven : List Item) (refused : Option Item)
+    (before after : Option (List ℕ)) → (hears ≡ false → StandsAs Stands driven refused before after)
+    → StandsAs (λ items refused told. hears ≡ false → Stands items refused told) driven refused before after
+stands_if true Stands driven refused before after is = (λ none. absurd (true≢false none), inr (λ none. absurd (true≢false none)))
+stands_if false Stands driven refused before after is =
+    let stands = is refl in (
+      λ none. stands.0,
+      elim stands.1 [
+        | inl nothing ↦ inl nothing
+        | inr all ↦ inr (λ none. all)
+      ],
+    )
+
+module _ {S E : Type 0} {sending : Sending} (laws : SendsLawfully sending) (rules : LaneRules S E) (start : S) (Stands : List Item → Option Item → List Item → Type 0) where
   -- nothing was written, and nothing drove it
-  pub left_none : (first second : Option (List ℕ)) (now : Option Input) (before : Option (List ℕ)) → sending.Begins first second [] → Stands [] None
+  pub left_none : (first second : Option (List ℕ)) (now : Option Input) (before : Option (List ℕ)) → sending.Begins first second [] → Stands [] None []
       → LeavesMachine sending rules start Stands first second now before before
   left_none first second now before begin stands = record {
     begun = writes_none laws rules start first second now before begin;
@@ -76,7 +91,7 @@ module _ {S E : Type 0} {sending : Sending} (laws : SendsLawfully sending) (rule
 
   -- it stands so wherever this is so, and it is
   pub left_stands : (Holds : Type 0) → Holds → (first second : Option (List ℕ)) (now : Option Input) (before after : Option (List ℕ))
-      → LeavesMachine sending rules start (λ items refused. Holds → Stands items refused) first second now before after
+      → LeavesMachine sending rules start (λ items refused told. Holds → Stands items refused told) first second now before after
       → LeavesMachine sending rules start Stands first second now before after
   left_stands Holds holds first second now before after left = record {
     begun = left.begun;
@@ -93,7 +108,7 @@ module _ {S E : Type 0} {sending : Sending} (laws : SendsLawfully sending) (rule
 
     module _ (driven : List Item) (state : S) (mid : Outside) (told : List (Told E)) (drove : Drives rules driven start state told before mid)
         (still : rules.waits state ≡ false) (begin : sending.Begins first second driven) where
-      left_all : sending.Begins first second (driven ++ []) → after ≡ mid → Stands driven None → Left
+      left_all : sending.Begins first second (driven ++ []) → after ≡ mid → Stands driven None driven → Left
       left_all sent same stands = record {
         begun = upto_still laws rules start quiet first second driven state told before mid drove after.written begin (rw same (Grows-none mid.written));
         driven = driven;
@@ -103,24 +118,31 @@ module _ {S E : Type 0} {sending : Sending} (laws : SendsLawfully sending) (rule
         stands = stands;
       }
 
-      module _ (item : Item) (sent : sending.Begins first second (driven ++ item ∷ [])) (stands : Stands driven (Some item)) where
-        left_begun : ItemBegun rules state item mid.written after.written → Left
-        left_begun (inl nothing) = record {
+      module _ (item : Item) (sent : sending.Begins first second (driven ++ item ∷ []))
+          (stands : StandsAs Stands driven (Some item) mid.written after.written) where
+        left_still : Grows mid.written after.written [] → Left
+        left_still nothing = record {
           begun = upto_still laws rules start quiet first second driven state told before mid drove after.written begin nothing;
           driven = driven;
           refused = Some item;
           are = inl refl;
           sent = sent;
-          stands = stands;
+          stands = stands.0;
         }
-        left_begun (inr (next, entries, steps, part)) = record {
-          begun = upto_item laws rules start quiet first second driven state told before mid drove after.written item next entries sent still steps part;
-          driven = driven;
-          refused = Some item;
-          are = inr refl;
-          sent = sent;
-          stands = stands;
-        }
+
+        left_begun : ItemBegun rules state item mid.written after.written → Left
+        left_begun (inl nothing) = left_still nothing
+        left_begun (inr (next, entries, steps, part)) = by stands.1 where
+          by : Grows mid.written after.written [] ⊎ Stands driven (Some item) (driven ++ item ∷ []) → Left
+          by (inl nothing) = left_still nothing
+          by (inr all) = record {
+            begun = upto_item laws rules start quiet first second driven state told before mid drove after.written item next entries sent still steps part;
+            driven = driven;
+            refused = Some item;
+            are = inr refl;
+            sent = sent;
+            stands = all;
+          }
 
         left_fails : (status : Status) → FailsItem rules status state item mid after ⊎ FailsBehind rules status state item mid after → Left
         left_fails status (inl fails) =
@@ -129,8 +151,8 @@ module _ {S E : Type 0} {sending : Sending} (laws : SendsLawfully sending) (rule
         left_fails status (inr fails) = absurd (never_waits rules never fails.state fails.waits)
 
       left_by : (refused : Option Item) → sending.Begins first second (driven ++ option_to_list refused) → LeavesOff (RefusesNext rules) refused state mid after
-          → Stands driven refused → Left
-      left_by None sent leaves stands = left_all sent leaves stands
+          → StandsAs Stands driven refused mid.written after.written → Left
+      left_by None sent leaves stands = left_all sent leaves stands.0
       left_by (Some item) sent leaves stands = left_fails item sent stands leaves.0 (leaves.1 still)
 
     -- so it is behind the items that drove it, and the one that it refused

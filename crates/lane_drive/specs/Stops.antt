@@ -150,15 +150,15 @@ module _ {S E : Type 0} (sending : Sending) (rules : LaneRules S E) (start : S) 
     pub wrote : GrowsUpTo before after (told_text rules told)
 
   -- A beginning of the text of the items that drove a machine was written, or of these and the one after them, which it refused. It stands as it
-  -- may after them.
-  pub record LeavesMachine (Stands : List Item → Option Item → Type 0) (first second : Option (List ℕ)) (now : Option Input) (before after : Option (List ℕ))
+  -- may after them, while this is written.
+  pub record LeavesMachine (Stands : List Item → Option Item → List Item → Type 0) (first second : Option (List ℕ)) (now : Option Input) (before after : Option (List ℕ))
       : Type 0 where
     pub begun : WritesBegun first second now before after
     pub driven : List Item
     pub refused : Option Item
     pub are : (begun.items ≡ driven) ⊎ (begun.items ≡ driven ++ option_to_list refused)
     pub sent : sending.Begins first second (driven ++ option_to_list refused)
-    pub stands : Stands driven refused
+    pub stands : Stands driven refused begun.items
 
   -- how the run of two open lanes ends: by the reconciler, after the last reply, as the lanes did, or as memory ran out
   abbrev pub EndsBy : (first first' second second' : SourceState) (before after : Outside) → Status → Type 0

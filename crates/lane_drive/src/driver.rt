@@ -30,7 +30,7 @@ impl<M: LaneMachine> Reconciler for Driver<M> {
 
     ghost Asks = { AsksFor M.rules };
 
-    ghost Behind = { λ driver items refused. M.rules.hears ≡ false → M.Behind driver.replies.machine items refused };
+    ghost Behind = { λ driver items refused told. M.rules.hears ≡ false → M.Behind driver.replies.machine items refused told };
 
     fn take<I: PacedSource<K>, K: Sink>(
         &mut self,

@@ -8,6 +8,7 @@ ghost use Rattle.kube_model.specs.declared.status.Status.TheVariants.{BadReply, 
 ghost use Rattle.lane_mail.specs.declared.item.Item.{Item};
 ghost use Rattle.lane_mail.specs.declared.lane.Lane.{Lane};
 ghost use Rattle.lane_mail.specs.declared.lane.Lane.TheVariants.{First, Second};
+ghost use Rattle.lane_run.specs.Reconciled.{StandsAs};
 ghost use Rattle.line_run.specs.Machine.{Stops};
 ghost use Rattle.line_run.specs.Steps.{Takes, Refuses};
 ghost use Rattle.lane_drive.specs.LaneRules.{LaneRules, IsHeldLimit, IsItemLimit, reply_rules};
@@ -36,9 +37,10 @@ pub trait LaneMachine {
     /// What an item and a reply are to a state, and what is written of an entry.
     ghost rules: { LaneRules State TranscriptEntry };
 
-    /// It may stand so after these items, and where it refused the one after them. Where it says
-    /// nothing of that, it may stand so after any.
-    ghost Behind: { Self → List Item → Option Item → Type 0 } = { λ _ _ _. ⊤ };
+    /// It may stand so after these items, and where it refused the one after them, while what is
+    /// written begins the text of the items of the last list. Where it says nothing of that, it may
+    /// stand so after any.
+    ghost Behind: { Self → List Item → Option Item → List Item → Type 0 } = { λ _ _ _ _. ⊤ };
 
     /// The name of the lane.
     fn lane_name(lane: Lane) -> LaneName
@@ -60,10 +62,10 @@ pub trait LaneMachine {
             (K.written out.old) (K.written out.new)) }
         ensures err { IfErr result (λ refusal. RefusesItem refusal rules (state self.old) item
             (K.written out.old) (K.written out.new) (K.faults out.old) (K.faults out.new)) }
-        ensures behind { OnOk result ((items : List Item) → Behind self.old items None
-            → Behind self.new (items ++ item ∷ []) None) }
-        ensures refused { OnErr result
-            ((items : List Item) → Behind self.old items None → Behind self.new items (Some item)) }
+        ensures behind { OnOk result ((items : List Item) → Behind self.old items None items
+            → Behind self.new (items ++ item ∷ []) None (items ++ item ∷ [])) }
+        ensures refused { OnErr result ((items : List Item) → Behind self.old items None items
+            → StandsAs (Behind self.new) items (Some item) (K.written out.old) (K.written out.new)) }
         ensures later { K.faults out.old ≤ K.faults out.new };
 
     /// Takes the line as the reply that is awaited, and writes what comes of it before it returns.

@@ -68,7 +68,7 @@ pub(crate) fn run_opened<
     // However it ends, a beginning of the text of the items that drove the machine was written, or
     // of these and the next one, which it refused. One that hears no replies stands as it may after
     // them.
-    ensures behind { M.rules.hears ≡ false → M.Behind driver.old.replies.machine [] None
+    ensures behind { M.rules.hears ≡ false → M.Behind driver.old.replies.machine [] None []
         → LeavesMachine (turned A.Turns B.Turns M.belongs
         (A.state first_turner.old) (A.state first_turner.new) (B.state second_turner.old) (B.state second_turner.new))
         M.rules (M.state driver.old.replies.machine) (M.Behind driver.new.replies.machine) (S.left first.old) (S.left second.old)

@@ -93,7 +93,7 @@ pub fn run_turned_files<
     // However it ends, that is a beginning of the text of the items that drove the machine, or of
     // these and the next one, which it refused. One that hears no replies stands as it may after
     // them. What was sent leads on to the states with which both turners come back.
-    ensures behind { M.rules.hears ≡ false → M.Behind machine [] None
+    ensures behind { M.rules.hears ≡ false → M.Behind machine [] None []
         → LeavesMachine (turned A.Turns B.Turns M.belongs
         (A.state first_turner.old) (A.state first_turner.new) (B.state second_turner.old) (B.state second_turner.new))
         M.rules (M.state machine) (M.Behind result.1) (F.bytes files.old first.now) (F.bytes files.old second.now)

@@ -1,5 +1,5 @@
 -- What a reconciler makes of the items that it takes.
-use Rattle.std.specs.Prelude.{◌≡◌, ℕ, List, [], ◌∷◌, ◌++◌, Option, Some, None, Result, Ok, Err}
+use Rattle.std.specs.Prelude.{◌≡◌, ◌⊎◌, ℕ, List, [], ◌∷◌, ◌++◌, Option, Some, None, Result, Ok, Err}
 use Rattle.std.specs.Option.{option_to_list}
 use Rattle.kube_model.specs.declared.status.Status.{Status}
 use Rattle.lane_mail.specs.declared.item.Item.{Item}
@@ -9,6 +9,7 @@ use Rattle.lane_run.specs.Together.{HasLanes}
 use Rattle.lane_run.specs.Waiting.{MayBeAwaited}
 use Rattle.line_run.specs.Answered.{MayBeAsked}
 use Rattle.mlb_edge.specs.Reading.{Reading}
+use Rattle.mlb_edge.specs.Written.{Grows}
 
 -- each of these items drives it, one after the other: they lead from one state to the other, and what is outside with them
 abbrev pub AreDriven : {S : Type 0} → (S → S → Item → Outside → Outside → Type 0) → List Item → S → S → Outside → Outside → Type 0
@@ -78,9 +79,15 @@ abbrev pub LeavesOff : {S : Type 0} → (Status → S → Item → Outside → O
 LeavesOff Refuses None state mid after = after ≡ mid
 LeavesOff Refuses (Some item) state mid after = (status : Status) × Refuses status state item mid after
 
--- Just these items drove it, and it may have refused the one after them. They were sent, and it stands as it may after them.
+-- It stands as it may while what is written begins what these items come to; and where it refused the one after them also with that one, unless
+-- nothing more was written.
+abbrev pub StandsAs : (List Item → Option Item → List Item → Type 0) → List Item → Option Item → (before after : Option (List ℕ)) → Type 0
+StandsAs Stands driven refused before after =
+    Stands driven refused driven × (Grows before after [] ⊎ Stands driven refused (driven ++ option_to_list refused))
+
+-- Just these items drove it, and it may have refused the one after them. They were sent, and it stands as it may after them, by what is written.
 pub record StandsBehind {S : Type 0} (Drives : S → S → Item → Outside → Outside → Type 0) (Refuses : Status → S → Item → Outside → Outside → Type 0)
-    (Stands : List Item → Option Item → Type 0) (AreSent : List Item → Type 0) (s : S) (before after : Outside) : Type 0 where
+    (Stands : List Item → Option Item → List Item → Type 0) (AreSent : List Item → Type 0) (s : S) (before after : Outside) : Type 0 where
   pub driven : List Item
   pub refused : Option Item
   pub sent : AreSent driven × AreSent (driven ++ option_to_list refused)
@@ -88,7 +95,7 @@ pub record StandsBehind {S : Type 0} (Drives : S → S → Item → Outside → 
   pub mid : Outside
   pub drove : AreDriven Drives driven s state before mid
   pub leaves : LeavesOff Refuses refused state mid after
-  pub stands : Stands driven refused
+  pub stands : StandsAs Stands driven refused mid.written after.written
 
 -- Both lanes have ended and each of their items was taken, and these were driven in the order in which they were taken.
 pub record Reconciled {S U : Type 0} (Drives : S → S → Item → Outside → Outside → Type 0) (Refuses : Status → S → Item → Outside → Outside → Type 0)

@@ -4,6 +4,7 @@ ghost use Rattle.std.specs.Prelude.{IfErr};
 ghost use Rattle.kube_model.specs.declared.status.Status.{Status};
 ghost use Rattle.lane_mail.specs.declared.item.Item.{Item};
 ghost use Rattle.lane_run.specs.Outside.{Outside, outside, source_state};
+ghost use Rattle.lane_run.specs.Reconciled.{StandsAs};
 ghost use Rattle.line_run.specs.Answered.{MayBeAsked};
 
 use kube_model::Status;
@@ -33,9 +34,10 @@ pub trait Reconciler {
     /// other, it may ask for replies.
     ghost Asks: { State → Item → Outside → Outside → Type 0 };
 
-    /// It may stand so after these items, and where it refused the one after them. Where it says
-    /// nothing of that, it may stand so after any.
-    ghost Behind: { Self → List Item → Option Item → Type 0 } = { λ _ _ _. ⊤ };
+    /// It may stand so after these items, and where it refused the one after them, while what is
+    /// written begins what the items of the last list come to. Where it says nothing of that, it
+    /// may stand so after any.
+    ghost Behind: { Self → List Item → Option Item → List Item → Type 0 } = { λ _ _ _ _. ⊤ };
 
     /// Is driven by the item, and writes what comes of it before it returns. `reader` reads the replies of
     /// `input`. `Err` is the status that the run stops with.
@@ -62,9 +64,9 @@ pub trait Reconciler {
             (K.written out.old) (K.faults out.old))
             (outside reader.new (source_state (I.left input.new) (I.name input.new) (I.faults input.new))
             (K.written out.new) (K.faults out.new))) }
-        ensures behind { OnOk result ((items : List Item) → Behind self.old items None
-            → Behind self.new (items ++ item ∷ []) None) }
-        ensures refused { OnErr result
-            ((items : List Item) → Behind self.old items None → Behind self.new items (Some item)) }
+        ensures behind { OnOk result ((items : List Item) → Behind self.old items None items
+            → Behind self.new (items ++ item ∷ []) None (items ++ item ∷ [])) }
+        ensures refused { OnErr result ((items : List Item) → Behind self.old items None items
+            → StandsAs (Behind self.new) items (Some item) (K.written out.old) (K.written out.new)) }
         ensures name { I.name input.new ≡ I.name input.old };
 }

@@ -32,7 +32,7 @@ pub(crate) fn reconcile<M: Reconciler, R: PacedWait<K>, I: PacedSource<K>, K: Si
         (K.faults o))
         rt.now input.old reader.old out.old }
     ensures name { I.name input.new ≡ I.name input.old }
-    ensures behind { M.Behind machine.old [] None
+    ensures behind { M.Behind machine.old [] None []
         → StandsBehind M.Drives M.Refuses (M.Behind machine.new)
         (BeginsLanes inbox.new.first inbox.new.second) (M.state machine.old)
         (outside reader.old (source_state (I.left input.old) (I.name input.old) (I.faults input.old))

@@ -149,7 +149,7 @@ pub fn run_turned<
     // However the run ends, it stands as it may after the items that drove it, and after the one
     // that it refused, if it refused one. They were sent for a beginning of what each lane carries,
     // and lead on to the states with which both turners come back.
-    ensures behind { M.Behind machine.old [] None
+    ensures behind { M.Behind machine.old [] None []
         → StandsBehind M.Drives M.Refuses (M.Behind machine.new)
         (TurnedBeginnings A.Turns B.Turns L.belongs (S.left first.old) (S.left second.old)
         (A.state first_turner.old) (A.state first_turner.new) (B.state second_turner.old) (B.state second_turner.new))

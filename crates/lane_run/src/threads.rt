@@ -62,7 +62,7 @@ pub(crate) fn run_threads<
         (λ i r o. outside r (source_state (I.left i) (I.name i) (I.faults i)) (K.written o)
         (K.faults o))
         rt.now input.old reader.old out.old }
-    ensures behind { M.Behind machine.old [] None
+    ensures behind { M.Behind machine.old [] None []
         → StandsBehind M.Drives M.Refuses (M.Behind machine.new)
         (BeginsLanes inbox.new.first inbox.new.second) (M.state machine.old)
         (outside reader.old (source_state (I.left input.old) (I.name input.old) (I.faults input.old))
@@ -102,7 +102,7 @@ pub(crate) fn run_threads<
                 (K.faults o))
                 rt.now input.now reader.now out.now }
             ensures name { I.name input.exit.now ≡ I.name input.entry.now }
-            ensures behind { M.Behind machine.entry.now [] None
+            ensures behind { M.Behind machine.entry.now [] None []
                 → StandsBehind M.Drives M.Refuses (M.Behind machine.exit.now)
                 (BeginsLanes inbox.exit.now.first inbox.exit.now.second) (M.state machine.entry.now)
                 (outside reader.entry.now (source_state (I.left input.entry.now) (I.name input.entry.now) (I.faults input.entry.now))

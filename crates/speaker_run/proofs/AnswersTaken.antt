@@ -17,6 +17,7 @@ use Rattle.lane_run.specs.LaneInputs.{lane_input}
 use Rattle.lane_run.specs.Watched.{Begins}
 use Rattle.mlb_base.proofs.Lists.{all-behind, all-front}
 use Rattle.mlb_base.specs.Items.{IsIn}
+use Rattle.shown_board.specs.Boarded.{Boarded}
 use Rattle.speaker_machine.specs.Lanes.{belongs_to}
 use Rattle.speaker_machine.specs.declared.local_node.LocalNode.{LocalNode}
 use Rattle.speaker_machine.specs.Stream.{SpeakerState, Received, frame_in}
@@ -24,8 +25,9 @@ use Rattle.speaker_run.proofs.Responded.{answers_told}
 use Rattle.speaker_run.proofs.RespondedLines.{answers_are_frames, sided, taken_shows, watch_as_lines}
 use Rattle.speaker_run.proofs.RespondedShown.{IsLaned, events_of_first, laned}
 use Rattle.speaker_run.proofs.ShownSteps.{IsSided, frame_step}
-use Rattle.speaker_run.specs.ResponderClauses.{AnswersWhatIsTaken, EachAnswers, EachSends, RespondsRightly, answering, told_of_watch}
-use Rattle.speaker_run.specs.Responding.{AnswersItem, AreAnswered, answer_in, answer_octets, seen_in, sent_answer, shown_rules, unshown, watch_events}
+use Rattle.speaker_run.specs.ResponderClauses.{AnswersWhatIsTaken, EachAnswers, EachSends, RespondsAhead, RespondsRightly, answering, told_of_watch}
+use Rattle.speaker_run.specs.Responding.{AnswersItem, AreAnswered, IsAhead, answer_in, answer_octets, seen_in, sent_answer, shown_rules, unshown}
+use Rattle.speaker_run.specs.Responding.{watch_events}
 use Rattle.speaker_run.specs.Standing.{standing_answer}
 use Rattle.lane_drive.specs.Clauses.{WritesOf}
 use Rattle.speaker_laws.specs.Clauses.{begun_by}
@@ -198,3 +200,15 @@ responds_rightly words first second left before after written =
       sends = each_sends words first second written.items written.begin;
       answers = each_answers (begun_by words) first second written.items written.begin;
     }
+
+-- and so it is where a board is ended
+pub responds_ahead : {Z : Type 0} → (words : List (String Z)) (first second left before after : Option (List ℕ)) {start : SpeakerState} → begun_by words ≡ start
+    → (board : Boarded Event) (wrote : WritesOf (answering start first) shown_rules (unshown start) first second left before after)
+    → IsAhead board wrote.items → RespondsAhead words first second left before after board
+unfolding responds_rightly
+responds_ahead words first second left before after {start} is board wrote ahead =
+    let own : (wrote : WritesOf (answering (begun_by words) first) shown_rules (unshown (begun_by words)) first second left before after)
+    × IsAhead board wrote.items =
+    subst (λ (s : SpeakerState). (wrote : WritesOf (answering s first) shown_rules (unshown s) first second left before after) × IsAhead board wrote.items)
+    (sym is) (wrote, ahead) in
+    record { right = responds_rightly words first second left before after own.0; ahead = own.1 }

@@ -75,7 +75,7 @@ seen_up_to most (item ∷ front) last replies s t told sides none (own, behind, 
     (o.own, seen_up_to most front last behind next t more sides.1 o.none others o.more)
 
 -- what each item has, each of a lane has
-all_of_lane : (P : Item → Type 0) (lane : Lane) (items : List Item) → AllByRecursion P items → AllByRecursion P (items_of lane items)
+pub all_of_lane : (P : Item → Type 0) (lane : Lane) (items : List Item) → AllByRecursion P items → AllByRecursion P (items_of lane items)
 all_of_lane P lane [] all = tt
 all_of_lane P lane (item ∷ items) all = by (is_lane lane item.lane) (all_of_lane P lane items all.1) where
   by : (b : Bool) → AllByRecursion P (items_of lane items) → AllByRecursion P (cond b (item ∷ items_of lane items) (items_of lane items))
@@ -86,7 +86,7 @@ all_of_lane P lane (item ∷ items) all = by (is_lane lane item.lane) (all_of_la
 module _ (start : SpeakerState) (first second : Option (List ℕ)) (v w : Answering) (opens : Opens start v) (board : Boarded Event)
     (begin : IsPrefix board.published w.sight.seen) (driven : List Item) (refused : Option Item)
     (sent : (turned_by v w).Begins first second (driven ++ option_to_list refused)) (stands : HasShown board driven refused) where
-  few_taken : (items : List Item) (replies : List Line) (t : ShownState) (told : List (Told ShownEntry))
+  pub few_taken : (items : List Item) (replies : List Line) (t : ShownState) (told : List (Told ShownEntry))
       → AreItemsTaken shown_rules items replies (unshown start) t told → (items ≡ driven) ⊎ (items ≡ driven ++ option_to_list refused)
       → AllByRecursion (IsSeenUpTo (length board.published)) items
   few_taken items replies t told taken are = by are where
@@ -107,7 +107,7 @@ module _ (start : SpeakerState) (first second : Option (List ℕ)) (v w : Answer
     by (inl is) = with_last None (is ∙ sym (append-nil driven))
     by (inr is) = with_last refused is
 
-  pub writes_short : (now : Option Input) (before after : Option (List ℕ))
+  unfoldable pub writes_short : (now : Option Input) (before after : Option (List ℕ))
       → (writes : WritesBegun (turned_by v w) shown_rules (unshown start) first second now before after)
       → (writes.items ≡ driven) ⊎ (writes.items ≡ driven ++ option_to_list refused)
       → WritesBegun (answering start first) shown_rules (unshown start) first second now before after

@@ -11,6 +11,7 @@ use Rattle.kube_model.specs.declared.status.Status.{Status}
 use Rattle.kube_model.specs.declared.status.Status.TheVariants as statuses
 use Rattle.lane_drive.specs.LaneRules.{HaltsItem, RefusesItem, TakesItem}
 use Rattle.lane_mail.specs.declared.item.Item.{Item}
+use Rattle.lane_run.specs.Reconciled.{StandsAs}
 use Rattle.line_run.specs.Machine.{Transition, Goes, Stops}
 use Rattle.line_run.specs.Run.{text_of}
 use Rattle.line_run.specs.Text.{Halts, line_of}
@@ -23,7 +24,8 @@ use Rattle.shown_board.specs.Boarded.{Boarded}
 use Rattle.speaker_machine.specs.Lanes.{name_of}
 use Rattle.speaker_machine.specs.Stream.{SpeakerState, Received, IsUnapplied, frame_in, speaker_rules, step_by}
 use Rattle.speaker_machine.specs.declared.transcript.TranscriptEntry.{TranscriptEntry}
-use Rattle.speaker_run.specs.Responding.{HasShown, ShownEntry, ShownState, Tells, answer_in, answer_step, published_step, seen_in, sent_answer, shown_of}
+use Rattle.speaker_run.specs.Responding.{HasShown, ShownEntry, ShownState, StandsShown, Tells, answer_in, answer_step, published_step, seen_in, sent_answer}
+use Rattle.speaker_run.specs.Responding.{shown_of}
 use Rattle.speaker_run.specs.Responding.{shown_rules, shown_step_at, shown_text, told_answer, watch_events, with_published}
 use Rattle.speaker_run.specs.Standing.{standing_answer}
 use Rattle.speaker_run.proofs.ShownSteps.{frame_first, watched-append, watched_first}
@@ -119,29 +121,49 @@ module _ (s : ShownState) (item : Item) (none : frame_in item.event ≡ None) wh
 -- ---- what is published after an item
 module _ (items : List Item) (item : Item) where
   -- a frame changes nothing
-  pub shown_frame : (r : Received) → frame_in item.event ≡ Some r → (board : Boarded Event) → HasShown board items None
-      → HasShown board (items ++ item ∷ []) None
-  shown_frame r is board shown = (
-    shown.0 ∙ (sym (append-nil (watch_events items)) ∙ (ap (λ (events : List Event). watch_events items ++ events) (sym (frame_first item [] r is))
-        ∙ sym (watched-append items (item ∷ [])))),
-    shown.1,
-  )
+  same_watch : (r : Received) → frame_in item.event ≡ Some r → watch_events items ≡ watch_events (items ++ item ∷ [])
+  same_watch r is =
+      sym (append-nil (watch_events items)) ∙ (ap (λ (events : List Event). watch_events items ++ events) (sym (frame_first item [] r is))
+      ∙ sym (watched-append items (item ∷ [])))
+
+  pub shown_frame : (r : Received) → frame_in item.event ≡ Some r → (board : Boarded Event) → StandsShown board items None items
+      → StandsShown board (items ++ item ∷ []) None (items ++ item ∷ [])
+  shown_frame r is board ((all, none), ahead) = let more = all ∙ same_watch r is in ((more, none), inl more)
+
+  pub frame_refused : (r : Received) → frame_in item.event ≡ Some r → (board : Boarded Event) → StandsShown board items None items
+      → (before after : Option (List ℕ)) → StandsAs (StandsShown board) items (Some item) before after
+  frame_refused r is board ((all, none), ahead) before after = ((inl all, inl all), inr (inl all, inl (all ∙ same_watch r is)))
 
   -- a watched event is published
+  one_more : (board board' : Boarded Event) → HasShown board items None → board' ≡ with_published board item.event
+      → board'.published ≡ watch_events items ++ item.event ∷ []
+  one_more board board' shown is =
+      ap (λ (b : Boarded Event). b.published) is
+      ∙ (ap₂ (λ (xs ys : List Event). xs ++ ys ++ item.event ∷ []) shown.0 shown.1
+      ∙ ap (λ (xs : List Event). xs ++ item.event ∷ []) (append-nil (watch_events items)))
+
   shown_more : (board board' : Boarded Event) → frame_in item.event ≡ None → HasShown board items None → board' ≡ with_published board item.event
       → board'.published ≡ watch_events (items ++ item ∷ [])
   shown_more board board' none shown is =
-      ap (λ (b : Boarded Event). b.published) is
-      ∙ (ap₂ (λ (xs ys : List Event). xs ++ ys ++ item.event ∷ []) shown.0 shown.1
-      ∙ (ap (λ (xs : List Event). xs ++ item.event ∷ []) (append-nil (watch_events items))
-      ∙ (ap (λ (events : List Event). watch_events items ++ events) (sym (watched_first item [] none)) ∙ sym (watched-append items (item ∷ [])))))
+      one_more board board' shown is
+      ∙ (ap (λ (events : List Event). watch_events items ++ events) (sym (watched_first item [] none)) ∙ sym (watched-append items (item ∷ [])))
 
-  pub shown_watched : (board board' : Boarded Event) → frame_in item.event ≡ None → HasShown board items None → board' ≡ with_published board item.event
-      → HasShown board' (items ++ item ∷ []) None
-  shown_watched board board' none shown is = (shown_more board board' none shown is, ap (λ (b : Boarded Event). b.pending) is)
+  pub shown_watched : (board board' : Boarded Event) → frame_in item.event ≡ None → StandsShown board items None items
+      → board' ≡ with_published board item.event → StandsShown board' (items ++ item ∷ []) None (items ++ item ∷ [])
+  shown_watched board board' none (shown, ahead) is =
+      let more = shown_more board board' none shown is in ((more, ap (λ (b : Boarded Event). b.pending) is), inl more)
 
-  -- where it is refused, it may be so
-  pub shown_refused : (board board' : Boarded Event) → frame_in item.event ≡ None → HasShown board items None
-      → (board'.published ≡ board.published) ⊎ (board' ≡ with_published board item.event) → HasShown board' items (Some item)
-  shown_refused board board' none shown (inl same) = inl (same ∙ shown.0)
-  shown_refused board board' none shown (inr is) = inr (shown_more board board' none shown is)
+  -- where it is refused, its event is published, or nothing of it is written
+  published_refused : (board board' : Boarded Event) → frame_in item.event ≡ None → HasShown board items None
+      → board' ≡ with_published board item.event → (before after : Option (List ℕ)) → StandsAs (StandsShown board') items (Some item) before after
+  published_refused board board' none shown is before after =
+      let more = shown_more board board' none shown is in
+      ((inr more, inr (item.event, one_more board board' shown is)), inr (inr more, inl more))
+
+  pub shown_refused : (board board' : Boarded Event) → frame_in item.event ≡ None → StandsShown board items None items
+      → (before after : Option (List ℕ))
+      → ((board'.published ≡ board.published) × Grows before after []) ⊎ (board' ≡ with_published board item.event)
+      → StandsAs (StandsShown board') items (Some item) before after
+  shown_refused board board' none (shown, ahead) before after (inl (same, nothing)) =
+      let all = same ∙ shown.0 in ((inl all, inl all), inl nothing)
+  shown_refused board board' none (shown, ahead) before after (inr is) = published_refused board board' none shown is before after

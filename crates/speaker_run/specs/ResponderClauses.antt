@@ -27,6 +27,7 @@ use Rattle.line_run.specs.Machine.{Goes}
 use Rattle.line_run.specs.Run.{AreTaken}
 use Rattle.mlb_base.specs.Items.{IsIn}
 use Rattle.mlb_edge.specs.declared.lines.Line.{Line}
+use Rattle.shown_board.specs.Boarded.{Boarded}
 use Rattle.speaker_machine.specs.declared.transcript.TranscriptEntry.{TranscriptEntry}
 use Rattle.speaker_machine.specs.declared.transcript.TranscriptEntry.TheVariants.{Sent}
 use Rattle.speaker_machine.specs.Lanes.{belongs_to}
@@ -34,7 +35,7 @@ use Rattle.speaker_machine.specs.Stream.{SpeakerState, Received, frame_in, speak
 use Rattle.speaker_laws.specs.Clauses.{begun_by, responder_lanes_of}
 use Rattle.speaker_laws.specs.Right.{IsRightRun}
 use Rattle.speaker_run.specs.LaneClauses.{opened}
-use Rattle.speaker_run.specs.Responding.{AreAnswered, IsAnsweredBy, ShownEntry, Tells, Seen, ShownState, shown_rules, unshown, watch_events}
+use Rattle.speaker_run.specs.Responding.{AreAnswered, IsAhead, IsAnsweredBy, ShownEntry, Tells, Seen, ShownState, shown_rules, unshown, watch_events}
 use Rattle.speaker_run.specs.Responding.{answer_octets, seen_in, answer_in, view_after_all}
 use Rattle.speaker_run.specs.Standing.{IsForStanding}
 
@@ -118,6 +119,14 @@ abbrev pub ResponderOwes : {Z K : Type 0} → List (String Z) → Status → (Li
     (input input' : SourceState) → (K → Option (List ℕ)) → (K → ℕ) → K → K → Type 0
 ResponderOwes words status bytes unfailing seen seen' input input' written faults out out' = WithResponder words
     (λ files. RespondsSo (begun_by words) files status bytes unfailing seen seen' input input' (written out) (written out') (faults out) (faults out'))
+
+-- A board may be ended wherever a beginning of the text of some items stands written, of which each watched event is published, and of no others but at
+-- most the next one.
+abbrev pub BoardMayEnd : {R K : Type 0} → SpeakerState → (R → Boarded Event → K → Type 0) → R → (first second left : Option (List ℕ))
+    → (K → Option (List ℕ)) → K → Type 0
+BoardMayEnd {R} {K} start may_end rt first second left written out = (board : Boarded Event) (out' : K)
+    (wrote : drive.WritesOf (answering start first) shown_rules (unshown start) first second left (written out) (written out'))
+    → IsAhead board wrote.items → may_end rt board out'
 
 -- ---- what is told of the watched objects
 -- the entries but the number of events by which a frame was answered
@@ -210,6 +219,18 @@ pub record RespondsRightly {Z : Type 0} (words : List (String Z)) (first second 
   pub right : IsRightRun words as_lines.lines
   pub sends : EachSends (begun_by words) written.items
   pub answers : EachAnswers (begun_by words) first second written.items
+
+-- So it is where the board is ended, and of the items of which a line stands written, in part or whole, each watched event is published there, and of no
+-- others but at most the next one.
+pub record RespondsAhead {Z : Type 0} (words : List (String Z)) (first second left before after : Option (List ℕ)) (board : Boarded Event) : Type 0 where
+  pub right : RespondsRightly words first second left before after
+  pub ahead : IsAhead board right.written.items
+
+-- a board may be ended wherever this is so of what stands written
+abbrev pub ResponderMayEnd : {Z R K : Type 0} → List (String Z) → (R → Boarded Event → K → Type 0) → R → (List ℕ → Option (List ℕ)) → (left : Option (List ℕ))
+    → (K → Option (List ℕ)) → K → Type 0
+ResponderMayEnd {Z} {R} {K} words may_end rt bytes left written out = WithResponder words (λ files. (board : Boarded Event) (out' : K)
+    → RespondsAhead words (bytes files.first) (bytes files.second) left (written out) (written out') board → may_end rt board out')
 
 abbrev pub ResponderWritesRightly : {Z K : Type 0} → List (String Z) → (List ℕ → Option (List ℕ)) → (left : Option (List ℕ)) → (K → Option (List ℕ)) → K → K
     → Type 0

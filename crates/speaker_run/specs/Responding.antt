@@ -170,3 +170,11 @@ watch_events items = filter (λ event. is_none (frame_in event)) (map (λ item. 
 abbrev pub HasShown : Boarded Event → List Item → Option Item → Type 0
 HasShown board items None = (board.published ≡ watch_events items) × (board.pending ≡ [])
 HasShown board items (Some item) = (board.published ≡ watch_events items) ⊎ (board.published ≡ watch_events (items ++ item ∷ []))
+
+-- Of these items each watched event is published, and of no others but at most the next one.
+abbrev pub IsAhead : Boarded Event → List Item → Type 0
+IsAhead board items = (board.published ≡ watch_events items) ⊎ ((event : Event) × (board.published ≡ watch_events items ++ event ∷ []))
+
+-- So it is after these items, while a beginning of the text of those of the last list stands written.
+abbrev pub StandsShown : Boarded Event → List Item → Option Item → List Item → Type 0
+StandsShown board items refused told = HasShown board items refused × IsAhead board told

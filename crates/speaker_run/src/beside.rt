@@ -14,7 +14,7 @@ ghost use Rattle.speaker_words.specs.Seen.{said_seen};
 ghost use Rattle.speaker_machine.specs.Lanes.{name_of};
 ghost use Rattle.speaker_machine.specs.Stream.{first_state};
 ghost use Rattle.speaker_run.specs.LaneClauses.{CanEndLanes};
-ghost use Rattle.speaker_run.specs.ResponderClauses.{RespondsSo};
+ghost use Rattle.speaker_run.specs.ResponderClauses.{BoardMayEnd, RespondsSo};
 ghost use Rattle.speaker_run.specs.Responding.{shown_of, shown_rules, unseen, unshown};
 
 use crate::responder::FrameAnswerer;
@@ -31,14 +31,14 @@ use speaker_machine::{LocalNode, Speaker};
 use speaker_words::SpeakerWords;
 use std::alloc::Global;
 use std::thread::Threads;
-use view_board::{BoardWait, Classed, Opened};
+use view_board::{BoardEnd, BoardWait, Classed, Opened};
 
 /// Runs the speaker over both files. Each event of the first is published before what comes of it
 /// is written, and each frame of the second is answered on the thread of its lane by what is
 /// published then.
 pub(crate) fn run_responder<
     J: Classed + Send + Sync,
-    R: Threads + PacedWait<K> + MailWait + BoardWait + Sync,
+    R: Threads + PacedWait<K> + MailWait + BoardWait + BoardEnd<K> + Sync,
     F: WatchedFiles,
     S: PacedSource<K> + Send,
     K: Sink + Send,
@@ -64,6 +64,9 @@ pub(crate) fn run_responder<
         (HasStopped shown_rules (unshown (first_state (said_seen said.now)))
         (outside unread (source_state (S.left input.old) (S.name input.old) (S.faults input.old))
         (K.written out.old) (K.faults out.old))) }
+    requires ends { BoardMayEnd (first_state (said_seen said.now)) R.may_end rt.now
+        (F.bytes files.old (lane_seen lanes).first) (F.bytes files.old (lane_seen lanes).second)
+        (S.left input.old) K.written out.old }
     ensures responds { RespondsSo (first_state (said_seen said.now)) (lane_seen lanes.entry) result
         (F.bytes files.old) (F.unfailing files.old)
         (files_state (F.failed_opens files.old) (F.failed_reads files.old))
@@ -117,7 +120,7 @@ pub(crate) fn run_responder<
     // What was seen begins what was published: no thread can have seen more.
     let is_shown = answerer.responder.seen().begins(&writer.tell());
     drop(answerer);
-    rt.end_board(writer);
+    rt.end_board(writer, out);
     if is_shown {
         status
     } else {

@@ -13,8 +13,9 @@ ghost use Rattle.speaker_run.specs.Clauses.{InStream, MayAskAnswered, CanEnd};
 ghost use Rattle.speaker_run.specs.LaneClauses.{LanesMayOpen, LanesMayWait, LanesMayDrop, LanesOwe};
 ghost use Rattle.speaker_run.specs.LaneClauses.{LanesCanEnd, LanesWriteRightly};
 ghost use Rattle.speaker_run.specs.LaneClauses.{AtLaneOpenFault, AtLaneReadFault, LeavesOthers};
-ghost use Rattle.speaker_run.specs.ResponderClauses.{ResponderMayDrop, ResponderMayWait};
-ghost use Rattle.speaker_run.specs.ResponderClauses.{ResponderOwes, ResponderWritesRightly};
+ghost use Rattle.speaker_run.specs.ResponderClauses.{ResponderMayDrop, ResponderMayEnd};
+ghost use Rattle.speaker_run.specs.ResponderClauses.{ResponderMayWait, ResponderOwes};
+ghost use Rattle.speaker_run.specs.ResponderClauses.{ResponderWritesRightly};
 
 use crate::beside::run_responder;
 use crate::stream::stream_speaker;
@@ -28,13 +29,13 @@ use speaker_words::speaker_words;
 use std::alloc::Global;
 use std::marker::Brand;
 use std::thread::Threads;
-use view_board::{BoardWait, Opened};
+use view_board::{BoardEnd, BoardWait, Opened};
 
 /// All that the program does: where the words name two lane files, the run over these, which
 /// doesn't read the input, and where they ask for a responder it answers the frames meanwhile, on
 /// the thread of their lane; else the run over one stream, which opens no file.
 pub fn run_speaker<
-    R: Threads + PacedWait<K> + MailWait + BoardWait + Sync,
+    R: Threads + PacedWait<K> + MailWait + BoardWait + BoardEnd<K> + Sync,
     F: WatchedFiles,
     S: PacedSource<K> + Send,
     K: Sink + Send,
@@ -70,6 +71,13 @@ pub fn run_speaker<
     requires responder_drop { ResponderMayDrop words.now R.may_drop rt.now
         (source_state (S.left input.old) (S.name input.old) (S.faults input.old)) K.written K.faults
         out.old }
+
+    // A view is published before its lines are written: wherever the board is ended, each watched
+    // event of which a line stands written, in part or whole, is published, and of no others but at
+    // most the next one; and what stands written is right, as below. A publication may fail, and
+    // then the board is ended as it stands. So none is left until its lines are written.
+    requires responder_end { ResponderMayEnd words.now R.may_end rt.now (F.bytes files.old)
+        (S.left input.old) K.written out.old }
 
     ensures no_file { InStream words.now (files.new ≡ files.old) }
     ensures can_end { InStream words.now (CanEnd result) }

@@ -50,7 +50,7 @@ impl<J: Classed, R: BoardWait> Lanes for ShownSpeaker<'_, J, R> {
 impl<J: Classed, R: BoardWait> LaneMachine for ShownSpeaker<'_, J, R> {
     ghost use Rattle.std.specs.Prelude.{refl};
     ghost use Rattle.speaker_machine.specs.Causes.{names_taken, names_differ};
-    ghost use Rattle.speaker_run.specs.Responding.{HasShown, ShownEntry, ShownState, shown_of};
+    ghost use Rattle.speaker_run.specs.Responding.{ShownEntry, ShownState, StandsShown, shown_of};
     ghost use Rattle.speaker_run.specs.Responding.{shown_rules};
     ghost use Rattle.speaker_run.specs.ShownCauses.{shown_causes, shown_awaits_none};
 
@@ -62,7 +62,7 @@ impl<J: Classed, R: BoardWait> LaneMachine for ShownSpeaker<'_, J, R> {
 
     ghost rules = { shown_rules };
 
-    ghost Behind = { λ shown. HasShown shown.writer };
+    ghost Behind = { λ shown. StandsShown shown.writer };
 
     fn lane_name(lane: Lane) -> LaneName {
         Speaker::lane_name(lane)
@@ -189,9 +189,8 @@ impl<J: Classed, R: BoardWait> ShownSpeaker<'_, J, R> {
             (shown_of self.old.speaker self.old.writer) (item_of lane number event)
             (K.written out.old) (K.written out.new) (K.faults out.old) (K.faults out.new)) }
         ensures published { OnOk result (self.new.writer ≡ with_published self.old.writer event) }
-        ensures shows { OnErr result ((self.new.writer.published ≡ self.old.writer.published)
-            ⊎ (self.new.writer ≡ with_published self.old.writer event)) }
-        ensures ahead { OnErr result (Grows (K.written out.old) (K.written out.new) []
+        ensures ahead { OnErr result (((self.new.writer.published ≡ self.old.writer.published)
+            × Grows (K.written out.old) (K.written out.new) [])
             ⊎ (self.new.writer ≡ with_published self.old.writer event)) }
         ensures later { K.faults out.old ≤ K.faults out.new }
     {

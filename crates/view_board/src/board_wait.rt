@@ -34,9 +34,6 @@ pub trait BoardWait {
             (λ _. (writer.new.published ≡ writer.old.published ++ writer.old.pending)
             × (writer.new.pending ≡ []))
             (λ _. writer.new ≡ writer.old) };
-
-    /// `BoardWriter::end`.
-    fn end_board<J: Classed>(&self, writer: BoardWriter<J>);
 }
 
 /// What is a `Wait` is one for boards.
@@ -52,9 +49,5 @@ impl<R: Wait> BoardWait for R {
 
     fn publish<J: Classed>(&self, writer: &mut BoardWriter<J>) -> Result<(), NoMemory> {
         writer.publish(self)
-    }
-
-    fn end_board<J: Classed>(&self, writer: BoardWriter<J>) {
-        writer.end(self);
     }
 }

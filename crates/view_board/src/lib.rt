@@ -10,12 +10,14 @@
 #![tactic(auto)]
 
 mod answer;
+mod board_end;
 mod board_wait;
 mod elected_view;
 mod responder;
 mod writer;
 
 pub use answer::Answer;
+pub use board_end::BoardEnd;
 pub use board_wait::BoardWait;
 pub use elected_view::{Classed, ElectedView};
 pub use responder::{Reply, Responder, Told};

@@ -1,7 +1,8 @@
-use Rattle.std.proofs.Common.{[], ◌∷◌, ◌++◌, Some, None, refl, sym, ◌∙◌, subst, arith, append_assoc}
+use Rattle.std.proofs.Common.{[], ◌∷◌, ◌++◌, Some, None, inl, refl, sym, ◌∙◌, subst, arith, append_assoc}
 use Rattle.std.proofs.lemmas.List.{append-nil}
 use Rattle.lane_mail.proofs.Taking.{took_lengths}
 use Rattle.lane_run.specs.Together.{BeginsLanes}
+use Rattle.mlb_edge.specs.Written.{Grows-none}
 use Rattle.lane_run.proofs.DroveSoFar.{lanes_more, lanes_stay, AreDriven-push, drove_up_to}
 use Rattle.lane_run.proofs.reconciling.reconcile.Goals as goal
 
@@ -123,7 +124,7 @@ returns-in-AllEnded-clause-behind g c = λ fresh.
       mid = _;
       drove = so_far.drove;
       leaves = refl;
-      stands = so_far.stands fresh;
+      stands = (so_far.stands fresh, inl (Grows-none (g.K.Sink.written c.items.out)));
     }
 
 -- the last that wasn't dropped was refused

@@ -7,7 +7,7 @@ abbrev pub invariant-items : goal.invariant-items
 invariant-items g l = record {
   mail : l.inbox.mail ≡ l.fn.inbox.mail;
   name : g.I.PacedSource.name l.input ≡ g.I.PacedSource.name l.fn.input;
-  so_far : DroveSoFar g.M.Reconciler.Drives (λ items. g.M.Reconciler.Behind l.fn.machine [] None → g.M.Reconciler.Behind l.machine items None) l.inbox
+  so_far : DroveSoFar g.M.Reconciler.Drives (λ items. g.M.Reconciler.Behind l.fn.machine [] None [] → g.M.Reconciler.Behind l.machine items None items) l.inbox
       (g.M.Reconciler.state l.fn.machine) (g.M.Reconciler.state l.machine)
       (outside l.fn.reader (source_state (g.I.PacedSource.left l.fn.input) (g.I.PacedSource.name l.fn.input) (g.I.PacedSource.faults l.fn.input))
       (g.K.Sink.written l.fn.out) (g.K.Sink.faults l.fn.out))

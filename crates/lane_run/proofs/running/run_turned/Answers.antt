@@ -1,6 +1,7 @@
-use Rattle.std.proofs.Common.{[], ◌++◌, None, refl}
+use Rattle.std.proofs.Common.{[], ◌++◌, None, inl, refl}
 use Rattle.std.specs.Option.{option_to_list}
 use Rattle.lane_run.proofs.RanSo.{sent_of, part_of, turned_none}
+use Rattle.mlb_edge.specs.Written.{Grows-none}
 use Rattle.lane_run.proofs.running.run_turned.Goals as goal
 
 pub returns-clause-ran : goal.returns-clause-ran
@@ -50,5 +51,5 @@ returns-in_err-mail-clause-behind g c = λ fresh. record {
   mid = _;
   drove = (refl, refl);
   leaves = refl;
-  stands = fresh;
+  stands = (fresh, inl (Grows-none (g.K.Sink.written c.args.out.now)));
 }

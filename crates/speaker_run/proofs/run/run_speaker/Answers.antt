@@ -11,7 +11,7 @@ use Rattle.speaker_machine.specs.Stream.{SpeakerState}
 use Rattle.speaker_laws.specs.Clauses.{begun_by}
 use Rattle.speaker_laws.proofs.Begun.{named-begun, with-responder, without-responder}
 use Rattle.speaker_run.specs.Responding.{shown_rules, unshown}
-use Rattle.speaker_run.proofs.AnswersTaken.{responds_rightly}
+use Rattle.speaker_run.proofs.AnswersTaken.{responds_ahead, responds_rightly}
 use Rattle.speaker_run.proofs.LanesRight.{some-same, writes_rightly}
 use Rattle.speaker_run.proofs.LaneEnds.{asks_never, can_end, ends_none, writes_none}
 use Rattle.speaker_run.proofs.run.run_speaker.Goals as goal
@@ -103,6 +103,15 @@ run_responder-requires-clause-drops g c = λ _ _ items out stopped.
     let asked = (with-responder (texts_of c.args.words.now) (said_seen c.in-Some.said) c.in-Some.ensures.said c.if-said.true).0 in
     c.requires.responder_drop (lane_seen c.in-Some-lanes.lanes) (asked ∙ ap (option_map lane_seen) c.in-Some-lanes.is) items out
     (subst (λ (s : SpeakerState). HasStopped shown_rules (unshown s) before items (g.K.Sink.written out)) (sym begun.0) stopped))
+
+pub run_responder-requires-clause-ends : goal.run_responder-requires-clause-ends
+run_responder-requires-clause-ends g c = λ _ _ board out wrote ahead.
+    (let texts = texts_of c.args.words.now in
+    let begun = named-begun texts (said_seen c.in-Some.said) c.in-Some.ensures.said in
+    let asked = (with-responder texts (said_seen c.in-Some.said) c.in-Some.ensures.said c.if-said.true).0 in
+    let files = lane_seen c.in-Some-lanes.lanes in
+    c.requires.responder_end files (asked ∙ ap (option_map lane_seen) c.in-Some-lanes.is) board out
+    (responds_ahead c.args.words.now _ _ _ _ _ begun.0 board wrote ahead))
 
 pub returns-then-said-clause-responder_only : goal.returns-then-said-clause-responder_only
 returns-then-said-clause-responder_only g c files named =

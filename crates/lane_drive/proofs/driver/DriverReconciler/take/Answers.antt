@@ -1,7 +1,9 @@
-use Rattle.std.proofs.Common.{Result, Ok, Err, IfErr, OnOk, OnErr, refl, ◌∙◌}
+use Rattle.std.proofs.Common.{◌≡◌, ℕ, List, Option, Some, Result, Ok, Err, IfErr, OnOk, OnErr, refl, ap, subst, ◌∙◌}
 use Rattle.std.proofs.lemmas.Result.{on_ok_weaker, IfErr-weaker}
-use Rattle.lane_run.specs.Outside.{outside, source_state}
-use Rattle.lane_drive.proofs.Heard.{never_waits}
+use Rattle.lane_run.specs.Outside.{Outside, outside, source_state}
+use Rattle.lane_run.specs.Reconciled.{StandsAs}
+use Rattle.lane_drive.proofs.Heard.{hears_not, never_waits}
+use Rattle.lane_drive.proofs.Left.{stands_if}
 use Rattle.lane_drive.proofs.Taken.{asks_not, awaits_behind, drives_item, fails_behind, fails_item, fails_not}
 use Rattle.lane_drive.proofs.driver.DriverReconciler.take.Goals as goal
 
@@ -67,16 +69,23 @@ returns-clause-err g c =
 
 -- where no reply is ever awaited, just the item was offered
 pub returns-in-Err-clause-refused : goal.returns-in-Err-clause-refused
-returns-in-Err-clause-refused g c = λ items behind none.
+returns-in-Err-clause-refused g c = λ items behind.
+    stands_if g.M.LaneMachine.rules.hears (g.M.LaneMachine.Behind c.hear_replies.new.replies.machine) items (Some c.args.item) _ _ (λ none.
     let laws = g.met.M.LaneMachine in
     let stops = c.in-Err.ensures.err in
-    absurd (never_waits g.M.LaneMachine.rules (laws.unheard none) stops.state stops.waits)
+    absurd (never_waits g.M.LaneMachine.rules (laws.unheard none) stops.state stops.waits))
 
 pub returns-in-Err-take_item-clause-refused : goal.returns-in-Err-take_item-clause-refused
-returns-in-Err-take_item-clause-refused g c = λ items behind none.
+returns-in-Err-take_item-clause-refused g c = λ items behind.
+    stands_if g.M.LaneMachine.rules.hears (g.M.LaneMachine.Behind c.take_item.new.self) items (Some c.args.item) _ _ (λ none.
     let laws = g.met.M.LaneMachine in
-    let same = c.hear_replies.ensures.quiet (laws.unheard none (g.M.LaneMachine.state c.args.self.now.replies.machine)) in
-    c.in-Err-take_item.ensures.refused items (rw same (behind none))
+    let quiet = laws.unheard none (g.M.LaneMachine.state c.args.self.now.replies.machine) in
+    let same = c.hear_replies.ensures.quiet quiet in
+    let still = hears_not g.M.LaneMachine.rules _ _ _ _ quiet c.in_default.ensures.ok.0 in
+    let unwritten : g.K.Sink.written c.hear_replies.new.out ≡ g.K.Sink.written c.args.out.now = ap (λ (o : Outside). o.written) still.1 in
+    subst (λ (before : Option (List ℕ)). StandsAs (g.M.LaneMachine.Behind c.take_item.new.self) items (Some c.args.item) before
+    (g.K.Sink.written c.take_item.new.out)) unwritten
+    (c.in-Err-take_item.ensures.refused items (rw same (behind none))))
 
 pub returns-clause-behind : goal.returns-clause-behind
 returns-clause-behind g c = on_ok_always c.hear_replies-2.result (λ items behind none.
@@ -86,6 +95,7 @@ returns-clause-behind g c = on_ok_always c.hear_replies-2.result (λ items behin
     rw same' (c.in_default-take_item.ensures.behind items (rw same (behind none))))
 
 pub returns-clause-refused : goal.returns-clause-refused
-returns-clause-refused g c = err_then_never c.hear_replies-2.result _ _ c.hear_replies-2.ensures.err (λ status stops items behind none.
+returns-clause-refused g c = err_then_never c.hear_replies-2.result _ _ c.hear_replies-2.ensures.err (λ status stops items behind.
+    stands_if g.M.LaneMachine.rules.hears (g.M.LaneMachine.Behind c.hear_replies-2.new.replies.machine) items (Some c.args.item) _ _ (λ none.
     let laws = g.met.M.LaneMachine in
-    absurd (never_waits g.M.LaneMachine.rules (laws.unheard none) stops.state stops.waits))
+    absurd (never_waits g.M.LaneMachine.rules (laws.unheard none) stops.state stops.waits)))

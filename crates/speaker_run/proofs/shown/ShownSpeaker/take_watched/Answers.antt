@@ -24,7 +24,7 @@ returns-in_err-written-clause-err g c =
 pub returns-in_err-entries-clause-ahead : goal.returns-in_err-entries-clause-ahead
 returns-in_err-entries-clause-ahead g c =
     let p = err_from_is_err_and c.from_residual.result c.from_residual.ensures.1 in
-    rw p.1 (inl (Grows-none (g.K.Sink.written c.args.out.now)))
+    rw p.1 (inl (c.in_err-entries.ensures.unpublished, Grows-none (g.K.Sink.written c.args.out.now)))
 
 pub returns-in_err-written-clause-ahead : goal.returns-in_err-written-clause-ahead
 returns-in_err-written-clause-ahead g c =
